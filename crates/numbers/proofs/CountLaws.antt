@@ -1,0 +1,47 @@
+-- How many numbers pass a test: equal tests count alike, a split test adds up, a run may be cut in two. Assumes nothing.
+use mathlib.Core.Path.{_≡_, refl, sym, ap, ap₂, _∙_}
+use mathlib.Core.Logic.{_⊎_, inl, inr}
+use mathlib.Core.Bool.{Bool, true, false}
+use Prim.Native.Nat.{ℕ, zero, suc, _+_, _<_}
+use native.Mathlib.Nat.{add-zero, add-suc, add-assoc}
+use native.Mathlib.Omega.{arith}
+use lib.Dec.{T}
+use Rattle.numbers.specs.Count.{bit, count}
+
+pub count-ext : (p q : ℕ → Bool) (n : ℕ) → ((i : ℕ) → i < n → p i ≡ q i) → count p n ≡ count q n
+unfolding count
+count-ext p q zero h = refl
+count-ext p q (suc n) h = ap₂ _+_ (count-ext p q n (λ i l. h i (omega arith))) (ap bit (h n (omega arith)))
+
+-- a test that splits in two adds up
+pub count-split : (p q r : ℕ → Bool) (n : ℕ) → ((i : ℕ) → bit (p i) ≡ bit (q i) + bit (r i)) → count p n ≡ count q n + count r n
+unfolding count
+count-split p q r zero h = refl
+count-split p q r (suc n) h = omega (arith, h n, count-split p q r n h)
+
+pub count-all : (n : ℕ) → count (λ i. true) n ≡ n
+unfolding count
+count-all zero = refl
+count-all (suc n) = rw (count-all n) (omega arith)
+
+pub count-none : (p : ℕ → Bool) (n : ℕ) → ((i : ℕ) → p i ≡ false) → count p n ≡ 0
+unfolding count
+count-none p zero h = refl
+count-none p (suc n) h = rw (h n, count-none p n h)
+
+-- of one number at most, none passes or the first does
+pub count-few : (p : ℕ → Bool) (n : ℕ) → n < 2 → (count p n ≡ 0) ⊎ ((count p n ≡ 1) × T (p 0) × (n ≡ 1))
+unfolding count
+count-few p zero h = inl refl
+count-few p (suc zero) h = go (p 0)
+  where
+    go : (b : Bool) → (0 + bit b ≡ 0) ⊎ ((0 + bit b ≡ 1) × T b × (suc zero ≡ 1))
+    go true = inr (refl, tt, refl)
+    go false = inl refl
+count-few p (suc (suc n)) h = absurd (omega arith)
+
+-- a run cut in two consecutive parts
+pub count-parts : (p : ℕ → Bool) (m n : ℕ) → count p (m + n) ≡ count p m + count (λ i. p (m + i)) n
+unfolding count
+count-parts p m zero = ap (count p) (add-zero m) ∙ sym (add-zero (count p m))
+count-parts p m (suc n) = rw (add-suc, count-parts p m n) (add-assoc (count p m) (count (λ i. p (m + i)) n) (bit (p (m + n))))

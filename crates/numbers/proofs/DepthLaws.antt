@@ -1,0 +1,81 @@
+-- The depth of a base is the least k with b ^ k at or above 2 ^ 32, and the denominator is that power. Assumes nothing.
+use mathlib.Core.Path.{_≡_, refl, sym, ap, _∙_}
+use mathlib.Core.Logic.{⊎-elim}
+use Prim.Native.Nat.{ℕ, _+_, _-_, _*_, _^_, _<_, _≤_}
+use native.Mathlib.Nat.{le-antisymm, le-of-eq, le-trans, pow-zero, pow-le-pow-left, mul-le-mul}
+use native.Mathlib.Omega.{arith}
+use Rattle.numbers.specs.Digits.{digitCount, digitCountIn}
+use Rattle.numbers.specs.Depth.{depth, denominator}
+use Rattle.numbers.proofs.Cases.{lt-or-ge}
+use Rattle.numbers.proofs.DigitLaws.{digit-count-reaches, digit-count-least, pow-pos, pow-one-more, pow-up-to}
+
+pub depth-reaches : (b : ℕ) → 2 ≤ b → 2 ^ 32 ≤ b ^ depth b
+unfolding depth
+depth-reaches b l = omega (arith, digit-count-reaches b (2 ^ 32 - 1) l)
+
+pub depth-least : (b m : ℕ) → 2 ≤ b → 2 ^ 32 ≤ b ^ m → depth b ≤ m
+unfolding depth
+depth-least b m l h = digit-count-least b (2 ^ 32 - 1) m l (omega arith)
+
+-- the values that 01-scope.md names
+pub depths : (depth 2 ≡ 32) × (depth 3 ≡ 21) × (depth 5 ≡ 14) × (depth 255 ≡ 5) × (depth 256 ≡ 4)
+unfolding depth digitCount digitCountIn
+depths = (refl, refl, refl, refl, refl)
+
+-- an index below 2 ^ 32 has no more digits than the depth
+pub depth-covers : (b n : ℕ) → 2 ≤ b → n < 2 ^ 32 → n < b ^ depth b
+depth-covers b n l h = omega (arith, depth-reaches b l)
+
+pub depth-pos : (b : ℕ) → 2 ≤ b → 0 < depth b
+depth-pos b l = ⊎-elim (λ p. p) (λ p. absurd (none p)) (lt-or-ge 0 (depth b))
+  where
+    none : depth b ≤ 0 → ⊥
+    none p = omega (arith, depth-reaches b l, pow-up-to b {j = depth b} {k = 0} (omega arith) p, pow-zero b)
+
+pub depth-at-most : (b : ℕ) → 2 ≤ b → depth b ≤ 32
+depth-at-most b l = depth-least b 32 l (pow-le-pow-left l 32)
+
+-- one digit fewer does not reach
+depth-short : (b : ℕ) → 2 ≤ b → b ^ (depth b - 1) < 2 ^ 32
+depth-short b l =
+    ⊎-elim (λ p. p) (λ p. absurd (omega (arith, depth-least b (depth b - 1) l p, depth-pos b l))) (lt-or-ge (b ^ (depth b - 1)) (2 ^ 32))
+
+denominator-split : (b : ℕ) → 2 ≤ b → denominator b ≡ b ^ (depth b - 1) * b
+unfolding denominator
+denominator-split b l =
+    ap (λ (k : ℕ). b ^ k) {x = depth b} {y = depth b - 1 + 1} (omega (arith, depth-pos b l)) ∙ pow-one-more b (depth b - 1)
+
+-- so that its product with a cut's number below 2 ^ 24 fits a word
+pub denominator-lt : (b : ℕ) → 2 ≤ b → b ≤ 256 → denominator b < 2 ^ 40
+denominator-lt b l u =
+    rw (denominator-split b l)
+    (omega (arith, mul-le-mul {n₁ = b ^ (depth b - 1)} {m₁ = b} {n₂ = 2 ^ 32 - 1} {m₂ = 256} (omega (arith, depth-short b l)) u))
+
+-- ---- a power of b on the way to the denominator
+
+pub record Rising (b d : ℕ) : Type 0 where
+  pub exponent : ℕ
+  pub within : exponent ≤ depth b
+  pub is : d ≡ b ^ exponent
+
+pub rising-none : (b : ℕ) → Rising b 1
+rising-none b = record { exponent = 0; within = omega arith; is = sym (pow-zero b) }
+
+module _ {b d : ℕ} (a : Rising b d) (l : 2 ≤ b) where
+  pub rising-more : d < 2 ^ 32 → Rising b (d * b)
+  rising-more h =
+      record {
+        exponent = a .exponent + 1;
+        within = ⊎-elim (λ p. omega arith) (λ p. absurd (omega (arith, a .is, depth-reaches b l, pow-up-to b (omega arith) p))) (lt-or-ge (a .exponent) (depth b));
+        is = ap (λ (x : ℕ). x * b) (a .is) ∙ sym (pow-one-more b (a .exponent));
+      }
+
+  pub rising-pos : 0 < d
+  rising-pos = omega (arith, a .is, pow-pos b (a .exponent) (omega arith))
+
+  pub rising-depth : 2 ^ 32 ≤ d → a .exponent ≡ depth b
+  rising-depth h = le-antisymm (a .within) (depth-least b (a .exponent) l (le-trans h (le-of-eq (a .is))))
+
+  pub rising-whole : 2 ^ 32 ≤ d → d ≡ denominator b
+  unfolding denominator
+  rising-whole h = a .is ∙ ap (λ (k : ℕ). b ^ k) (rising-depth h)

@@ -1,0 +1,8 @@
+-- Laws of the definitions, for this crate's functions and for every crate above.
+pub mod Cases
+pub mod GcdLaws
+pub mod InverseLaws
+pub mod DigitLaws
+pub mod NumeratorLaws
+pub mod DepthLaws
+pub mod CountLaws

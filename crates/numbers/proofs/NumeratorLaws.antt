@@ -1,0 +1,102 @@
+-- The numerator of k digits by its last digit and by its first, its range, and what it says of the index. Over any map σ of the digits.
+-- Assumes nothing.
+use mathlib.Core.Path.{_≡_, refl, sym, ap, ap₂, _∙_, subst}
+use Prim.Native.Nat.{ℕ, zero, suc, _+_, _-_, _*_, _/_, _%_, _^_, _<_, _≤_}
+use native.Mathlib.Nat.{pow-zero, pow-suc, mod-lt, mul-assoc, mul-comm, mul-one, add-mul, add-assoc, add-zero, add-suc, zero-add, zero-mul, zero-mod, zero-div, div-one, div-div-eq-div-mul, div-add-mod', mul-add-mod-self-right, mul-add-div-right}
+use native.Mathlib.Numerals.{add-one, suc-eq-add-one}
+use native.Mathlib.Omega.{arith}
+use lib.Arith.{digits-lt, digits-div, lt-one}
+use Rattle.numbers.specs.Digits.{digit, sum, term, numeratorTo}
+use Rattle.numbers.proofs.DigitLaws.{pow-one-more, quotient-none, sum-ext, sum-times, sum-one-more}
+
+-- digit k of what is left after the lowest is digit k + 1
+digit-left : (b n k : ℕ) → digit b (n / b) k ≡ digit b n (k + 1)
+unfolding digit
+digit-left b n k =
+    ap (λ (q : ℕ). q % b) (div-div-eq-div-mul n b (b ^ k) ∙ ap (λ (p : ℕ). n / p) (mul-comm b (b ^ k) ∙ sym (pow-one-more b k)))
+
+digit-none : (b n : ℕ) → digit b n 0 ≡ n % b
+unfolding digit
+digit-none b n = ap (λ (q : ℕ). q % b) (sym (quotient-none b n))
+
+module _ (σ : ℕ → ℕ) (b : ℕ) where
+  -- ---- one digit more
+
+  -- the digits already there move up by one place
+  term-up : (k n j : ℕ) → j < k → term σ b (k + 1) n j ≡ term σ b k n j * b
+  unfolding term
+  term-up k n j l =
+      ap (λ (e : ℕ). σ (digit b n j) * b ^ e) {x = k + 1 - 1 - j} {y = k - 1 - j + 1} (omega arith)
+      ∙ ap (λ (p : ℕ). σ (digit b n j) * p) (pow-one-more b (k - 1 - j)) ∙ sym (mul-assoc (σ (digit b n j)) (b ^ (k - 1 - j)) b)
+
+  term-last : (k n : ℕ) → term σ b (k + 1) n k ≡ σ (digit b n k)
+  unfolding term
+  term-last k n =
+      ap (λ (e : ℕ). σ (digit b n k) * b ^ e) {x = k + 1 - 1 - k} {y = 0} (omega arith)
+      ∙ rw pow-zero (mul-one (σ (digit b n k)))
+
+  pub numerator-none : (n : ℕ) → numeratorTo σ b 0 n ≡ 0
+  unfolding numeratorTo sum
+  numerator-none n = refl
+
+  -- by the last digit: Horner's rule
+  pub numerator-last : (k n : ℕ) → numeratorTo σ b (k + 1) n ≡ numeratorTo σ b k n * b + σ (digit b n k)
+  unfolding numeratorTo
+  numerator-last k n =
+      sum-one-more (term σ b (k + 1) n) k
+      ∙ ap₂ _+_ (sum-ext (term σ b (k + 1) n) (λ j. term σ b k n j * b) k (term-up k n) ∙ sum-times (term σ b k n) k b) (term-last k n)
+
+  -- by the first digit, and the numerator of what is left
+  pub numerator-first : (k n : ℕ) → numeratorTo σ b (k + 1) n ≡ σ (n % b) * b ^ k + numeratorTo σ b k (n / b)
+  numerator-first zero n =
+      numerator-last 0 n
+      ∙ rw (numerator-none n, numerator-none (n / b), digit-none b n, pow-zero, zero-mul, mul-one) (omega arith)
+  numerator-first (suc k) n =
+      numerator-last (suc k) n
+      ∙ rw (suc-eq-add-one k, numerator-first k n, numerator-last k (n / b), digit-left b n k, pow-one-more b k, add-mul, mul-assoc) (add-assoc _ _ _)
+
+  -- index 0
+  pub numerator-zero : σ 0 ≡ 0 → (k : ℕ) → numeratorTo σ b k 0 ≡ 0
+  numerator-zero z zero = numerator-none 0
+  numerator-zero z (suc k) =
+      rw (suc-eq-add-one k) (numerator-first k 0 ∙ rw (zero-mod b, zero-div b, z, numerator-zero z k, zero-mul) refl)
+
+  module _ (below : (d : ℕ) → d < b → σ d < b) (pos : 0 < b) where
+    digit-image-below : (n j : ℕ) → σ (digit b n j) < b
+    unfolding digit
+    digit-image-below n j = below (digit b n j) (mod-lt (_ / _) pos)
+
+    -- a numerator of k digits is below b ^ k
+    pub numerator-lt : (k n : ℕ) → numeratorTo σ b k n < b ^ k
+    numerator-lt zero n = rw pow-zero (unfold numeratorTo sum in omega arith)
+    numerator-lt (suc k) n =
+        rw (suc-eq-add-one k, numerator-last k n, pow-one-more b k) (digits-lt (numerator-lt k n) (digit-image-below n k))
+
+    -- the first m digits of a numerator of m + j digits are the numerator of m digits
+    pub numerator-lead : (m j n : ℕ) → numeratorTo σ b (m + j) n / b ^ j ≡ numeratorTo σ b m n
+    numerator-lead m zero n = ap₂ (λ (x p : ℕ). numeratorTo σ b x n / p) (add-zero m) (pow-zero b) ∙ div-one _
+    numerator-lead m (suc j) n =
+        ap₂ (λ (x p : ℕ). numeratorTo σ b x n / p) (add-suc m j ∙ sym (add-one (m + j))) (pow-suc b j ∙ mul-comm (b ^ j) b)
+        ∙ sym (div-div-eq-div-mul _ b (b ^ j))
+        ∙ ap (λ (x : ℕ). x / b ^ j) (ap (λ (x : ℕ). x / b) (numerator-last (m + j) n) ∙ digits-div _ (digit-image-below n (m + j)))
+        ∙ numerator-lead m j n
+
+  -- ---- a numerator of k digits looks at k digits only
+
+  pub numerator-low : 0 < b → (k q r : ℕ) → numeratorTo σ b k (q * b ^ k + r) ≡ numeratorTo σ b k r
+  numerator-low pos zero q r = numerator-none _ ∙ sym (numerator-none r)
+  numerator-low pos (suc k) q r =
+      rw (suc-eq-add-one k)
+      (numerator-first k (q * b ^ (k + 1) + r)
+      ∙ ap₂ (λ (x y : ℕ). σ x * b ^ k + numeratorTo σ b k y)
+      (ap (λ (x : ℕ). x % b) shape ∙ mul-add-mod-self-right (q * b ^ k) b r)
+      (ap (λ (x : ℕ). x / b) shape ∙ mul-add-div-right pos (q * b ^ k) r)
+      ∙ ap (λ (x : ℕ). σ (r % b) * b ^ k + x) (numerator-low pos k q (r / b))
+      ∙ sym (numerator-first k r))
+    where
+      shape : q * b ^ (k + 1) + r ≡ q * b ^ k * b + r
+      shape = ap (λ (x : ℕ). x + r) (ap (λ (x : ℕ). q * x) (pow-one-more b k) ∙ sym (mul-assoc q (b ^ k) b))
+
+  -- it depends on the index's class modulo b ^ k alone
+  pub numerator-class : 0 < b → (k n : ℕ) → numeratorTo σ b k n ≡ numeratorTo σ b k (n % b ^ k)
+  numerator-class pos k n = ap (numeratorTo σ b k) (sym (div-add-mod' n (b ^ k))) ∙ numerator-low pos k (n / b ^ k) (n % b ^ k)

@@ -1,0 +1,6 @@
+pub mod Choice
+pub mod Gcd
+pub mod Digits
+pub mod Depth
+pub mod Count
+pub mod Cut

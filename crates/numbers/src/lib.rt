@@ -1,0 +1,68 @@
+// Number theory that every axis rests on: Euclid's rule, digits, powers, the depth of a base.
+ghost use mathlib.Core.Path.{_≡_};
+ghost use Prim.Native.Nat.{_^_, _<_, _≤_};
+ghost use Rattle.numbers.specs.Gcd.{gcd};
+ghost use Rattle.numbers.specs.Digits.{digitCount};
+ghost use Rattle.numbers.specs.Depth.{depth, denominator};
+
+// The greatest common divisor, by Euclid's rule.
+pub fn gcd(a: u64, b: u64) -> u64
+    ensures { λ r. ⌜ r ≡ gcd a b ⌝ }
+{
+    let mut x = a;
+    let mut y = b;
+    while y != 0 {
+        let z = x % y;
+        x = y;
+        y = z;
+    }
+    x
+}
+
+// How many digits `n` has in base `b`: none for 0.
+pub fn digit_count(b: u64, n: u64) -> u64
+    requires { ⌜ 2 ≤ b ⌝ }
+    ensures { λ r. ⌜ r ≡ digitCount b n ⌝ }
+{
+    let mut rest = n;
+    let mut k = 0;
+    while rest != 0 {
+        rest = rest / b;
+        k = k + 1;
+    }
+    k
+}
+
+// `b` to the power `k`, which fits a word.
+pub fn power(b: u64, k: u64) -> u64
+    requires { ⌜ (0 < b) × (b ^ k < 2 ^ 64) ⌝ }
+    ensures { λ r. ⌜ r ≡ b ^ k ⌝ }
+{
+    let mut p = 1;
+    let mut i = 0;
+    while i < k {
+        p = p * b;
+        i = i + 1;
+    }
+    p
+}
+
+// The depth of base `b`: the least number of digits that every index fits in.
+pub fn depth(b: u64) -> u64
+    requires { ⌜ 2 ≤ b ⌝ }
+    ensures { λ r. ⌜ r ≡ depth b ⌝ }
+{
+    digit_count(b, 4294967295)
+}
+
+// The denominator of an axis of base `b`, by multiplications alone: the least power of `b` at or above 2^32.
+pub fn denominator(b: u64) -> u64
+    requires { ⌜ (2 ≤ b) × (b ≤ 256) ⌝ }
+    ensures { λ r. ⌜ r ≡ denominator b ⌝ }
+{
+    let mut d = 1;
+    while d < 4294967296 {
+        d = d * b;
+    }
+    d
+}
