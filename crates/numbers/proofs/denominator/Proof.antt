@@ -28,10 +28,10 @@ loop-less c =
     )
 
 loop-again : tie.Need-loop-again Inv-loop μ-loop
-loop-again c = rising-more (c .before .loop .inv) (omega arith) (c .loop-test .taken)
+loop-again c = rising-more (c .before .loop .inv) (omega arith) (omega arith)
 
 returns : tie.Need-returns Inv-loop μ-loop
-returns c = rising-whole (c .before .loop .inv) (omega arith) (c .loop-test .left)
+returns c = rising-whole (c .before .loop .inv) (omega arith) (omega arith)
 
 pub denominator-spec : {M : Type 1} → statement M
 denominator-spec = tie.close (tie.spec Inv-loop μ-loop loop-holds mul-d loop-less loop-again returns)

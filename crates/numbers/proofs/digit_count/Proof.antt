@@ -25,7 +25,7 @@ add-k c =
     let a = c .before .before .args in
     omega (
       arith,
-      digit-count-step (a .b) (c .before .loop .rest) (omega arith) (c .loop-test .taken),
+      digit-count-step (a .b) (c .before .loop .rest) (omega arith) (λ e. omega arith),
       digit-count-word (a .b) (a .n) (omega arith) (omega arith),
     )
 
@@ -33,7 +33,7 @@ loop-less : tie.Need-loop-less Inv-loop μ-loop
 loop-less c = div-lt-self (omega arith) (omega arith)
 
 loop-again : tie.Need-loop-again Inv-loop μ-loop
-loop-again c = omega (arith, digit-count-step (c .before .before .args .b) (c .before .loop .rest) (omega arith) (c .loop-test .taken))
+loop-again c = omega (arith, digit-count-step (c .before .before .args .b) (c .before .loop .rest) (omega arith) (λ e. omega arith))
 
 returns : tie.Need-returns Inv-loop μ-loop
 returns c =

@@ -23,10 +23,10 @@ loop-less : tie.Need-loop-less Inv-loop μ-loop
 loop-less c = mod-lt (c .before .loop .x) (omega arith)
 
 loop-again : tie.Need-loop-again Inv-loop μ-loop
-loop-again c = sym (gcd-step _ _ (c .loop-test .taken)) ∙ c .before .loop .inv
+loop-again c = sym (gcd-step _ _ (λ e. omega arith)) ∙ c .before .loop .inv
 
 returns : tie.Need-returns Inv-loop μ-loop
-returns c = sym (gcd-zero _ _ (c .loop-test .left)) ∙ c .before .loop .inv
+returns c = sym (gcd-zero _ _ (omega arith)) ∙ c .before .loop .inv
 
 pub gcd-spec : {M : Type 1} → statement M
 gcd-spec = tie.close (tie.spec Inv-loop μ-loop loop-holds rem-z loop-less loop-again returns)

@@ -1,0 +1,6 @@
+-- Laws of arithmetic over two elements, for the crates above.
+pub mod XorLaws
+pub mod GrayLaws
+pub mod MixLaws
+pub mod PolynomialLaws
+pub mod Examples

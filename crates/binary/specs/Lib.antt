@@ -1,0 +1,3 @@
+pub mod Gray
+pub mod Gf2
+pub mod Polynomial

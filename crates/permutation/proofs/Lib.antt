@@ -1,0 +1,5 @@
+-- Laws of the permutations, for this crate's functions and for every crate above.
+pub mod FaureRules
+pub mod FaureLaws
+pub mod PermutationLaws
+pub mod FamilyLaws

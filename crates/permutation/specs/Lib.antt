@@ -1,0 +1,3 @@
+pub mod Permutes
+pub mod Faure
+pub mod Families
