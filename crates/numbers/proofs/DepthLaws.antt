@@ -2,7 +2,7 @@
 use mathlib.Core.Path.{_≡_, refl, sym, ap, _∙_}
 use mathlib.Core.Logic.{⊎-elim}
 use Prim.Native.Nat.{ℕ, _+_, _-_, _*_, _^_, _<_, _≤_}
-use native.Mathlib.Nat.{le-antisymm, le-of-eq, le-trans, pow-zero, pow-le-pow-left, mul-le-mul}
+use native.Mathlib.Nat.{le-antisymm, le-of-eq, le-trans, pow-zero, pow-le-pow-left, mul-le-mul, mul-le-mul-left}
 use native.Mathlib.Omega.{arith}
 use Rattle.numbers.specs.Digits.{digitCount, digitCountIn}
 use Rattle.numbers.specs.Depth.{depth, denominator}
@@ -53,29 +53,35 @@ denominator-lt b l u =
 
 -- ---- a power of b on the way to the denominator
 
-pub record Rising (b d : ℕ) : Type 0 where
-  pub exponent : ℕ
-  pub within : exponent ≤ depth b
-  pub is : d ≡ b ^ exponent
+-- p is the k-th, and not past the depth
+pub record Rising (b k p : ℕ) : Type 0 where
+  pub within : k ≤ depth b
+  pub is : p ≡ b ^ k
 
-pub rising-none : (b : ℕ) → Rising b 1
-rising-none b = record { exponent = 0; within = omega arith; is = sym (pow-zero b) }
+pub rising-none : (b : ℕ) → Rising b 0 1
+rising-none b = record { within = omega arith; is = sym (pow-zero b) }
 
-module _ {b d : ℕ} (a : Rising b d) (l : 2 ≤ b) where
-  pub rising-more : d < 2 ^ 32 → Rising b (d * b)
+module _ {b k p : ℕ} (a : Rising b k p) (l : 2 ≤ b) where
+  pub rising-more : p < 2 ^ 32 → Rising b (k + 1) (p * b)
   rising-more h =
       record {
-        exponent = a .exponent + 1;
-        within = ⊎-elim (λ p. omega arith) (λ p. absurd (omega (arith, a .is, depth-reaches b l, pow-up-to b (omega arith) p))) (lt-or-ge (a .exponent) (depth b));
-        is = ap (λ (x : ℕ). x * b) (a .is) ∙ sym (pow-one-more b (a .exponent));
+        within = ⊎-elim (λ q. omega arith) (λ q. absurd (omega (arith, a .is, depth-reaches b l, pow-up-to b (omega arith) q))) (lt-or-ge k (depth b));
+        is = ap (λ (x : ℕ). x * b) (a .is) ∙ sym (pow-one-more b k);
       }
 
-  pub rising-pos : 0 < d
-  rising-pos = omega (arith, a .is, pow-pos b (a .exponent) (omega arith))
+  pub rising-pos : 0 < p
+  rising-pos = omega (arith, a .is, pow-pos b k (omega arith))
 
-  pub rising-depth : 2 ^ 32 ≤ d → a .exponent ≡ depth b
-  rising-depth h = le-antisymm (a .within) (depth-least b (a .exponent) l (le-trans h (le-of-eq (a .is))))
+  pub rising-depth : 2 ^ 32 ≤ p → k ≡ depth b
+  rising-depth h = le-antisymm (a .within) (depth-least b k l (le-trans h (le-of-eq (a .is))))
 
-  pub rising-whole : 2 ^ 32 ≤ d → d ≡ denominator b
+  pub rising-whole : 2 ^ 32 ≤ p → p ≡ denominator b
   unfolding denominator
-  rising-whole h = a .is ∙ ap (λ (k : ℕ). b ^ k) (rising-depth h)
+  rising-whole h = a .is ∙ ap (λ (j : ℕ). b ^ j) (rising-depth h)
+
+-- one more factor: the product fits a word, and the way to 2 ^ 32 is shorter
+pub rising-fits : {b p : ℕ} → b ≤ 256 → p < 2 ^ 32 → p * b < 2 ^ 40
+rising-fits {b} {p} u h = omega (arith, mul-le-mul {n₁ = p} {m₁ = b} {n₂ = 2 ^ 32 - 1} {m₂ = 256} (omega arith) u)
+
+pub rising-nears : {b p : ℕ} → 2 ≤ b → 0 < p → p < 2 ^ 32 → 2 ^ 32 - p * b < 2 ^ 32 - p
+rising-nears {b} {p} l pos h = omega (arith, mul-le-mul-left {m = 2} {n = b} p l)

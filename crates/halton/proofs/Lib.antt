@@ -1,0 +1,4 @@
+-- Laws of a Halton axis, for this crate's functions and for every crate above.
+pub mod AxisLaws
+pub mod ReversingLaws
+pub mod SteppingLaws

@@ -1,0 +1,48 @@
+// The Halton axis: the numerator of an index by jump and by step, over the digit images of any family.
+ghost use mathlib.Core.Path.{_≡_};
+ghost use Prim.Native.Nat.{_+_, _^_, _<_, _≤_};
+ghost use Rattle.numbers.specs.Depth.{denominator};
+ghost use Rattle.permutation.specs.Families.{imageOf};
+ghost use Rattle.halton.specs.Axis.{numerator};
+
+// What reversing an index tells.
+pub struct Reversed {
+    pub numerator: u64,
+}
+
+// The numerator of index `n` in base `b`: the reversing loop, by Horner's rule over the digits of `n`, lowest first, to the depth.
+pub fn jump(family: u64, b: u64, n: u64) -> Reversed
+    requires { ⌜ (2 ≤ b) × (b ≤ 256) × (n < 2 ^ 32) ⌝ }
+    ensures { λ r. ⌜ r .numerator ≡ numerator (imageOf family b) b n ⌝ }
+{
+    let mut x = 0;
+    let mut rest = n;
+    let mut p = 1;
+    while p < 4294967296 {
+        x = x * b + permutation::image(family, b, rest % b);
+        rest = rest / b;
+        p = p * b;
+    }
+    Reversed { numerator: x }
+}
+
+// The numerator of index `n + 1` from that of index `n`, which is `x`: the carry goes to the right. `d` is the denominator.
+pub fn step(family: u64, b: u64, d: u64, n: u64, x: u64) -> u64
+    requires { ⌜ (2 ≤ b) × (b ≤ 256) × (d ≡ denominator b) × (x ≡ numerator (imageOf family b) b n) ⌝ }
+    ensures { λ r. ⌜ r ≡ numerator (imageOf family b) b (n + 1) ⌝ }
+{
+    let mut w = d / b;
+    let mut rest = n;
+    let mut y = x;
+    while 0 < w {
+        let a = rest % b;
+        if a < b - 1 {
+            return y - permutation::image(family, b, a) * w
+                + permutation::image(family, b, a + 1) * w;
+        }
+        y = y - permutation::image(family, b, a) * w;
+        w = w / b;
+        rest = rest / b;
+    }
+    y
+}
