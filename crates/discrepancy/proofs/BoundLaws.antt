@@ -1,0 +1,91 @@
+-- The discrepancy bound of demand 3: axis by axis, the test of being inside stays fair, and all N steps are a progression. Assumes nothing.
+use mathlib.Core.Path.{_≡_}
+use mathlib.Core.Logic.{⊎-elim}
+use Prim.Native.Nat.{ℕ, zero, suc, _*_, _^_, _≤_, _<_}
+use native.Mathlib.Nat.{le-refl, le-trans, le-of-lt, dvd-refl, dvd-zero, mul-le-mul-right}
+use native.Mathlib.Omega.{arith}
+use Rattle.numbers.specs.Gcd.{Coprime, Invertible}
+use Rattle.numbers.specs.Digits.{digitCount}
+use Rattle.numbers.proofs.Cases.{lt-or-ge}
+use Rattle.numbers.proofs.GcdLaws.{gcd-one-iff-coprime}
+use Rattle.numbers.proofs.InverseLaws.{invertible-one, invertible-mul, gcd-one-iff-invertible}
+use Rattle.numbers.proofs.DigitLaws.{digit-count-reaches}
+use Rattle.numbers.proofs.DepthLaws.{depth-covers}
+use Rattle.discrepancy.specs.Bound.{CutAxis, inCut, inside, insideCount, uProduct, qProduct, factor, bound, Near, Sound, SoundAxes, haltonAxes, HaltonRun}
+use Rattle.discrepancy.proofs.FairLaws.{Fair, fair-none, fair-near, fair-axis}
+
+invertible : (m b : ℕ) → Coprime m b → Invertible m b
+invertible m b c = gcd-one-iff-invertible m b .0 (gcd-one-iff-coprime m b .1 c)
+
+-- an axis's depth covers the number of steps
+steps-le : (N : ℕ) (a : CutAxis) → Sound N a → N ≤ a .base ^ a .depth
+steps-le zero a z = omega arith
+steps-le (suc n) a z = omega (arith, z .reach n (le-refl (suc n)), mul-le-mul-right n moves)
+  where
+    still : a .stride ≤ 0 → 0 < a .stride
+    still h = absurd (omega (arith, z .base-big, z .stride-coprime (a .base) (rw stopped (dvd-zero (a .base))) (dvd-refl (a .base))))
+      where
+        stopped : a .stride ≡ 0
+        stopped = omega arith
+
+    moves : 0 < a .stride
+    moves = ⊎-elim (λ h. h) still (lt-or-ge 0 (a .stride))
+
+-- M is coprime to each of the s bases
+abbrev pub Apart : (ℕ → CutAxis) → ℕ → ℕ → Type 0
+Apart ax s M = (i : ℕ) → i < s → Invertible M (ax i .base)
+
+-- The bound may be that of more steps than are counted.
+pub axes-fair : (N N′ : ℕ) → N ≤ N′ → (ax : ℕ → CutAxis) (s : ℕ) → SoundAxes N′ ax s
+    → Fair N (Apart ax s) (inside ax s) (uProduct ax s) (qProduct ax s) (bound N′ ax s)
+unfolding inCut inside uProduct qProduct factor bound
+axes-fair N N′ h ax zero z = fair-none N (Apart ax 0)
+axes-fair N N′ h ax (suc s) z =
+    fair-axis (last .permutes) (omega (arith, last .base-big)) (axes-fair N N′ h ax s fewer) closed
+    (a .q) (last .q-pos) (Apart ax (suc s)) (λ M m. (λ i l. m i (omega arith), m s (le-refl (suc s))))
+    (a .start) (a .stride) (a .depth) (digitCount (a .base) N′) (a .u) (last .u-le) (invertible (a .stride) (a .base) (last .stride-coprime))
+    (le-trans h (le-of-lt (digit-count-reaches (a .base) N′ (last .base-big)))) (le-trans h (steps-le N′ a last))
+  where
+    a : CutAxis
+    a = ax s
+
+    last : Sound N′ a
+    last = z .sound s (le-refl (suc s))
+
+    fewer : SoundAxes N′ ax s
+    fewer = record { sound = λ i l. z .sound i (omega arith); coprime = λ i j l m. z .coprime i j l (omega arith) }
+
+    closed : (M : ℕ) → Apart ax s M → Apart ax s (M * a .base)
+    closed M m i l = invertible-mul (m i l) (invertible (a .base) (ax i .base) (z .coprime s i l (le-refl (suc s))))
+
+-- of the first N of N′ steps
+pub first-near : (N N′ : ℕ) → N ≤ N′ → (ax : ℕ → CutAxis) (s : ℕ) → SoundAxes N′ ax s
+    → Near N (insideCount N ax s) (uProduct ax s) (qProduct ax s) (bound N′ ax s)
+first-near N N′ h ax s z = fair-near (axes-fair N N′ h ax s z) (λ i l. invertible-one (ax i .base))
+
+pub axes-near : (N : ℕ) (ax : ℕ → CutAxis) (s : ℕ) → SoundAxes N ax s → Near N (insideCount N ax s) (uProduct ax s) (qProduct ax s) (bound N ax s)
+axes-near N ax s z = first-near N N (le-refl N) ax s z
+
+-- ---- a run with indexes below 2^32
+
+module _ (N s : ℕ) (σ : ℕ → ℕ → ℕ) (b start : ℕ → ℕ) (r : ℕ) (u q : ℕ → ℕ) (z : HaltonRun N s σ b start r u q) where
+  pub halton-sound : SoundAxes N (haltonAxes σ b start r u q) s
+  unfolding haltonAxes
+  halton-sound =
+      record {
+        sound = λ i l.
+            record {
+              base-big = z .base-big i l;
+              permutes = z .permutes i l;
+              stride-coprime = z .stride-coprime i l;
+              reach = λ t h. depth-covers (b i) _ (z .base-big i l) (z .index i t l h);
+              q-pos = z .q-pos i l;
+              u-le = z .u-le i l;
+            };
+        coprime = z .coprime;
+      }
+
+  -- Demand 3: of N steps as many are inside as the window's share of N, to within the bound.
+  pub halton-near : Near N (insideCount N (haltonAxes σ b start r u q) s) (uProduct (haltonAxes σ b start r u q) s)
+      (qProduct (haltonAxes σ b start r u q) s) (bound N (haltonAxes σ b start r u q) s)
+  halton-near = axes-near N (haltonAxes σ b start r u q) s halton-sound

@@ -1,0 +1,54 @@
+-- What fits a 64-bit word, for bases up to 256, runs of at most 2^32 steps and six axes: no base's factor passes that of 256, which is tested
+-- for each base. Assumes nothing.
+use mathlib.Core.Path.{_≡_, refl}
+use mathlib.Core.Logic.{⊎-elim}
+use mathlib.Core.Bool.{Bool, true, _&&_, and-eq-true-iff}
+use Prim.Native.Nat.{ℕ, zero, suc, _+_, _-_, _^_, _≤_, _<_}
+use native.Mathlib.Nat.{le-refl, le-trans, le-of-suc-le-suc, eq-or-lt-of-le, lt-of-le-of-lt, mul-le-mul, mul-le-mul-right, pow-suc, pow-le-pow-right}
+use native.Mathlib.Omega.{arith}
+use lib.Dec.{leb, lit<, lit≤}
+use borrow.Author.Tests.{leb-true}
+use Rattle.numbers.specs.Digits.{digitCount, digitCountIn}
+use Rattle.numbers.proofs.DigitLaws.{digit-count-mono}
+use Rattle.discrepancy.specs.Bound.{CutAxis, factor, bound}
+
+-- each number below n passes the test
+unfoldable each : (ℕ → Bool) → ℕ → Bool
+each p zero = true
+each p (suc n) = p n && each p n
+
+each-at : (p : ℕ → Bool) (n i : ℕ) → each p n ≡ true → i < n → p i ≡ true
+unfolding each
+each-at p zero i e h = absurd (omega arith)
+each-at p (suc n) i e h =
+    let both = and-eq-true-iff (p n) (each p n) .0 e in
+    ⊎-elim (λ (same : i ≡ n). rw same (both .0)) (each-at p n i (both .1)) (eq-or-lt-of-le (le-of-suc-le-suc h))
+
+-- at the longest run
+abbrev factor-small : ℕ → Bool
+factor-small c = leb (factor (c + 2) (2 ^ 32)) 1276
+
+factors-small : each factor-small 255 ≡ true
+unfolding each factor digitCount digitCountIn
+factors-small = refl
+
+pub factor-le : (b N : ℕ) → 2 ≤ b → b ≤ 256 → N ≤ 2 ^ 32 → factor b N ≤ 1276
+factor-le b N l h n = le-trans longer (leb-true _ _ (rw again at (each-at factor-small 255 (b - 2) factors-small (omega arith))))
+  where
+    again : b - 2 + 2 ≡ b
+    again = omega arith
+
+    longer : factor b N ≤ factor b (2 ^ 32)
+    longer = unfold factor in omega (arith, mul-le-mul-right (b - 1) (digit-count-mono b l n))
+
+module _ (N : ℕ) (ax : ℕ → CutAxis) (n : N ≤ 2 ^ 32) where
+  bound-le : (s : ℕ) → ((i : ℕ) → i < s → (2 ≤ ax i .base) × (ax i .base ≤ 256)) → bound N ax s ≤ 1276 ^ s
+  unfolding bound
+  bound-le zero h = lit≤ tt
+  bound-le (suc s) h =
+      let base = h s (le-refl (suc s)) in
+      rw pow-suc (mul-le-mul (bound-le s (λ i l. h i (omega arith))) (factor-le (ax s .base) N (base .0) (base .1) n))
+
+  -- the bound of six axes is a word
+  pub bound-fits : (s : ℕ) → s ≤ 6 → ((i : ℕ) → i < s → (2 ≤ ax i .base) × (ax i .base ≤ 256)) → bound N ax s < 2 ^ 64
+  bound-fits s l h = lt-of-le-of-lt (le-trans (bound-le s h) (pow-le-pow-right (lit< tt) l)) (lit< tt)
