@@ -6,12 +6,17 @@ use Prim.Native.Nat.{ℕ, zero, suc, _-_, _*_, _^_, _≤_, _<_}
 use lib.Dec.{ltb, eqb}
 use lib.Bits.{bitXor}
 use Rattle.numbers.specs.Choice.{choose}
+use Rattle.numbers.specs.Digits.{digitCount}
 use Rattle.binary.specs.Gf2.{product}
 
 -- p has degree d
 pub record Degree (d p : ℕ) : Type 0 where
   pub low : 2 ^ d ≤ p
   pub high : p < 2 ^ suc d
+
+-- the degree of p, which is not 0: one less than the number of its binary digits
+unfoldable pub degreeOf : ℕ → ℕ
+degreeOf p = digitCount 2 p - 1
 
 -- p divides x^e - 1, which over two elements is x^e + 1
 unfoldable pub Divides : ℕ → ℕ → Type 0

@@ -1,0 +1,106 @@
+// Runs the points that the source documents print through the library, and writes how many of each group agree.
+mod agreement;
+mod tables;
+
+use agreement::Printed;
+use libc::STDOUT_FILENO;
+
+// Writes a group's line: its label, how many of its rows agree, and how many there are.
+fn report(label: &[u8], printed: Printed, axes: [u64; 3], table: &[[u64; 7]]) {
+    let agreed = agreement::count_agreeing(printed, axes, table);
+    io::write_all(STDOUT_FILENO, label);
+    io::write_all(STDOUT_FILENO, b": ");
+    io::print_decimal(STDOUT_FILENO, agreed as u64);
+    io::write_all(STDOUT_FILENO, b" of ");
+    io::print_decimal(STDOUT_FILENO, table.len() as u64);
+    io::write_all(STDOUT_FILENO, b"\n");
+}
+
+// The groups of document 001: Halton points, plain and permuted.
+fn document_001() {
+    let plain = Printed::Halton { family: 0 };
+    let permuted = Printed::Halton { family: 1 };
+    report(
+        b"001 base 2, terms 1 to 10",
+        plain,
+        [2, 0, 0],
+        &tables::FIRST_TEN,
+    );
+    report(
+        b"001 base 2, terms 0 to 15",
+        plain,
+        [2, 0, 0],
+        &tables::FROM_ZERO,
+    );
+    report(
+        b"001 bases 2 3 5, terms 1 to 6",
+        plain,
+        [2, 3, 5],
+        &tables::HALTON_VECTORS,
+    );
+    report(
+        b"001 bases 2 3 5 permuted, terms 1 to 11",
+        permuted,
+        [2, 3, 5],
+        &tables::SCRAMBLED_VECTORS,
+    );
+    report(
+        b"001 base 7 permuted, terms 1 to 6",
+        permuted,
+        [7, 0, 0],
+        &tables::SCRAMBLED_SEVEN,
+    );
+}
+
+// The groups of document 002: Halton points, and steps that carry.
+fn document_002() {
+    let plain = Printed::Halton { family: 0 };
+    report(
+        b"002 base 3, terms 0 to 17",
+        plain,
+        [3, 0, 0],
+        &tables::BASE_THREE,
+    );
+    report(
+        b"002 bases 2 3, terms 0 to 9",
+        plain,
+        [2, 3, 0],
+        &tables::TWO_DIMENSIONS,
+    );
+    report(
+        b"002 base 2, carry from 183 to 184",
+        plain,
+        [2, 0, 0],
+        &tables::CARRY_BASE_TWO,
+    );
+    report(
+        b"002 base 3, carry from 1718 to 1719",
+        plain,
+        [3, 0, 0],
+        &tables::CARRY_BASE_THREE,
+    );
+}
+
+// The groups of document 003: a Sobol axis of the polynomial x^3 + x + 1.
+fn document_003() {
+    report(b"003 m_4 to m_6", Printed::SobolM, [11, 0, 0], &tables::M);
+    report(
+        b"003 v_1 to v_4",
+        Printed::SobolDirection,
+        [11, 0, 0],
+        &tables::DIRECTIONS,
+    );
+    report(
+        b"003 points 0 to 3",
+        Printed::SobolPoint,
+        [11, 0, 0],
+        &tables::POINTS,
+    );
+}
+
+// Every group, document by document.
+fn main() {
+    document_001();
+    document_002();
+    document_003();
+}
