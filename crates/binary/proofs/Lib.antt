@@ -3,4 +3,5 @@ pub mod XorLaws
 pub mod GrayLaws
 pub mod MixLaws
 pub mod PolynomialLaws
+pub mod DegreeLaws
 pub mod Examples

@@ -1,0 +1,163 @@
+-- Bits packed into bytes and bytes taken apart into bits undo each other, so that bits have one packing. Assumes nothing.
+use mathlib.Core.Path.{_≡_, refl, sym, ap, ap₂, _∙_, subst}
+use mathlib.Core.List.{List, [], _∷_, _++_, append-assoc}
+use mathlib.Core.Logic.{_↔_}
+use Prim.Native.Nat.{ℕ, zero, suc, _+_, _-_, _*_, _/_, _<_, _≤_}
+use native.Mathlib.Nat.{mod-eq-of-lt}
+use native.Mathlib.Omega.{arith}
+use lib.ListN.{length, take, drop, replicate, length-append, length-drop, length-replicate}
+use lib.Seq.{take-at, drop-at, take-nil, drop-nil, take-append-add, drop-append-add}
+use Rattle.bits.specs.Stream.{toBits, ofBits, bitsOf, AllBelow, overwrite, bytesFor, pack, packed}
+use Rattle.bits.proofs.StreamLaws.{length-to-bits, length-bits, of-bits-to-bits, to-bits-front, to-bits-zero, of-bits-take-lt, zeros-of-bits, below-append, below-right, below-drop, below-bits, below-zeros}
+
+-- ---- the bits of parts
+
+pub bits-append : (a b : List ℕ) → bitsOf (a ++ b) ≡ bitsOf a ++ bitsOf b
+unfolding bitsOf
+bits-append [] b = refl
+bits-append (x ∷ a) b = ap (λ (l : List ℕ). toBits 8 x ++ l) (bits-append a b) ∙ sym (append-assoc (toBits 8 x) (bitsOf a) (bitsOf b))
+
+eight-more : (x n : ℕ) → 8 * suc n ≡ length (toBits 8 x) + 8 * n
+eight-more x n = omega (arith, length-to-bits 8 x)
+
+pub bits-take : (n : ℕ) (bs : List ℕ) → bitsOf (take n bs) ≡ take (8 * n) (bitsOf bs)
+unfolding bitsOf
+bits-take zero bs = refl
+bits-take (suc n) [] = sym (take-nil (8 * suc n))
+bits-take (suc n) (x ∷ bs) =
+    ap (λ (l : List ℕ). toBits 8 x ++ l) (bits-take n bs) ∙ sym (rw (eight-more x n) (take-append-add (toBits 8 x) (bitsOf bs) (8 * n)))
+
+pub bits-drop : (n : ℕ) (bs : List ℕ) → bitsOf (drop n bs) ≡ drop (8 * n) (bitsOf bs)
+unfolding bitsOf
+bits-drop zero bs = refl
+bits-drop (suc n) [] = sym (drop-nil (8 * suc n))
+bits-drop (suc n) (x ∷ bs) = bits-drop n bs ∙ sym (rw (eight-more x n) (drop-append-add (toBits 8 x) (bitsOf bs) (8 * n)))
+
+-- ---- whole bytes
+
+pub length-pack : (n : ℕ) (l : List ℕ) → length (pack n l) ≡ n
+unfolding pack
+length-pack zero l = refl
+length-pack (suc n) l = ap suc (length-pack n (drop 8 l))
+
+pub below-pack : (n : ℕ) (l : List ℕ) → AllBelow 2 l → AllBelow 256 (pack n l)
+unfolding pack AllBelow
+below-pack zero l h = tt
+below-pack (suc n) l h = (of-bits-take-lt 8 l h, below-pack n (drop 8 l) (below-drop 2 8 l h))
+
+pub pack-bits : (bs : List ℕ) → AllBelow 256 bs → pack (length bs) (bitsOf bs) ≡ bs
+unfolding pack bitsOf AllBelow
+pack-bits [] h = refl
+pack-bits (b ∷ bs) h =
+    ap₂ _∷_ (ap ofBits (take-at (toBits 8 b) (bitsOf bs) 8 (length-to-bits 8 b)) ∙ of-bits-to-bits 8 b ∙ mod-eq-of-lt (h .0))
+    (ap (pack (length bs)) (drop-at (toBits 8 b) (bitsOf bs) 8 (length-to-bits 8 b)) ∙ pack-bits bs (h .1))
+
+pub bits-pack : (n : ℕ) (l : List ℕ) → AllBelow 2 l → length l ≡ 8 * n → bitsOf (pack n l) ≡ l
+unfolding pack bitsOf
+bits-pack zero [] h e = refl
+bits-pack zero (x ∷ l) h e = absurd (omega arith)
+bits-pack (suc n) l h e =
+    ap (λ (y : List ℕ). toBits 8 (ofBits (take 8 l)) ++ y) (bits-pack n (drop 8 l) (below-drop 2 8 l h) (omega (arith, length-drop 8 l)))
+    ∙ sym (to-bits-front 8 l h (omega arith))
+
+-- bytes with the same bits are the same bytes
+pub bits-inj : (a b : List ℕ) → AllBelow 256 a → AllBelow 256 b → bitsOf a ≡ bitsOf b → a ≡ b
+bits-inj a b ha hb e =
+    let n : length a ≡ length b = omega (arith, length-bits a, length-bits b, ap length e) in
+    sym (pack-bits a ha) ∙ ap₂ pack n e ∙ pack-bits b hb
+
+-- ---- the last byte filled with zero bits
+
+pub as-bytes : (n : ℕ) → (n + 7) / 8 ≡ bytesFor n
+unfolding bytesFor
+as-bytes n = refl
+
+-- the bytes hold the bits, with fewer than eight to spare
+pub bytes-hold : (n : ℕ) → n ≤ 8 * bytesFor n
+unfolding bytesFor
+bytes-hold n = omega arith
+
+pub filling-lt : (n : ℕ) → 8 * bytesFor n - n < 8
+unfolding bytesFor
+filling-lt n = omega arith
+
+pub length-packed : (l : List ℕ) → length (packed l) ≡ bytesFor (length l)
+unfolding packed
+length-packed l = length-pack _ _
+
+module _ (l : List ℕ) (h : AllBelow 2 l) where
+  filled : AllBelow 2 (l ++ replicate (8 * bytesFor (length l) - length l) 0)
+  filled = below-append 2 l _ h (below-zeros (8 * bytesFor (length l) - length l))
+
+  pub below-packed : AllBelow 256 (packed l)
+  unfolding packed
+  below-packed = below-pack (bytesFor (length l)) _ filled
+
+  pub bits-packed : bitsOf (packed l) ≡ l ++ replicate (8 * bytesFor (length l) - length l) 0
+  unfolding packed
+  bits-packed =
+      let k : ℕ = 8 * bytesFor (length l) - length l in
+      bits-pack (bytesFor (length l)) (l ++ replicate k 0) filled
+      (omega (arith, bytes-hold (length l), length-append l (replicate k 0), length-replicate {A = ℕ} k 0))
+
+  -- the same, the zero bits as a field of them
+  pub bits-packed-field : (n : ℕ) → n ≡ length l → bitsOf (packed l) ≡ l ++ toBits (8 * bytesFor n - n) 0
+  bits-packed-field n e = rw (to-bits-zero, e) bits-packed
+
+-- bytes whose bits are l and fewer than eight zero bits are the packing of l
+pub packed-bits : (bs l r : List ℕ) → AllBelow 256 bs → bitsOf bs ≡ l ++ r → length r < 8 → r ≡ replicate (length r) 0 → packed l ≡ bs
+unfolding packed bytesFor
+packed-bits bs l r h e few zero-r =
+    let n : 8 * length bs ≡ length l + length r = sym (length-bits bs) ∙ ap length e ∙ length-append l r in
+    let eb : (length l + 7) / 8 ≡ length bs = omega arith in
+    let ef : 8 * length bs - length l ≡ length r = omega arith in
+    rw (eb, ef, ← zero-r, ← e) (pack-bits bs h)
+
+-- the same by the tail's number
+pub packed-tail : (bs l r : List ℕ) → AllBelow 256 bs → bitsOf bs ≡ l ++ r → length r < 8 → ofBits r ≡ 0 → packed l ≡ bs
+packed-tail bs l r h e few zero-r =
+    packed-bits bs l r h e few (zeros-of-bits r (below-right 2 l r (subst (AllBelow 2) e (below-bits bs))) zero-r)
+
+-- and no others are
+pub packed-unique : (bs l : List ℕ) → AllBelow 2 l → AllBelow 256 bs → packed l ≡ bs ↔ ((k : ℕ) × (k < 8) × (bitsOf bs ≡ l ++ replicate k 0))
+packed-unique bs l h hb = (to, from)
+  where
+    to : packed l ≡ bs → (k : ℕ) × (k < 8) × (bitsOf bs ≡ l ++ replicate k 0)
+    to e = (8 * bytesFor (length l) - length l, filling-lt (length l), ap bitsOf (sym e) ∙ bits-packed l h)
+
+    from : (k : ℕ) × (k < 8) × (bitsOf bs ≡ l ++ replicate k 0) → packed l ≡ bs
+    from (k, few, e) =
+        let n : length {A = ℕ} (replicate k 0) ≡ k = length-replicate {A = ℕ} k 0 in
+        packed-bits bs l (replicate k 0) hb e (omega arith) (ap (λ (j : ℕ). replicate j 0) (sym n))
+
+-- ---- a packing written over the front of bytes
+
+-- is the front of the bytes
+pub packed-front : (l old new : List ℕ) (n : ℕ) → AllBelow 2 l → AllBelow 256 (take (bytesFor n) new) → n ≡ length l
+    → bitsOf new ≡ overwrite (bitsOf old) 0 (l ++ toBits (8 * bytesFor n - n) 0) → take (bytesFor n) new ≡ packed l
+unfolding overwrite
+packed-front l old new n h hn en e =
+    let x : List ℕ = l ++ toBits (8 * bytesFor n - n) 0 in
+    let es : bitsOf (packed l) ≡ l ++ toBits (8 * bytesFor n - n) 0 = bits-packed-field l h n en in
+    let lx : length (l ++ toBits (8 * bytesFor n - n) 0) ≡ 8 * bytesFor n =
+    sym (ap length es) ∙ length-bits (packed l) ∙ ap (λ (k : ℕ). 8 * k) (length-packed l ∙ ap bytesFor (sym en)) in
+    bits-inj (take (bytesFor n) new) (packed l) hn (below-packed l h)
+    (bits-take (bytesFor n) new
+    ∙ ap (take (8 * bytesFor n)) e
+    ∙ take-at x (drop (0 + length x) (bitsOf old)) (8 * bytesFor n) lx
+    ∙ sym es)
+
+-- and what stood after it stays
+pub packed-over : (l old new : List ℕ) (n : ℕ) → AllBelow 2 l → AllBelow 256 old → AllBelow 256 new → n ≡ length l
+    → bitsOf new ≡ overwrite (bitsOf old) 0 (l ++ toBits (8 * bytesFor n - n) 0) → new ≡ packed l ++ drop (length (packed l)) old
+unfolding overwrite
+packed-over l old new n h ho hn en e =
+    let s : List ℕ = packed l in
+    let es : bitsOf (packed l) ≡ l ++ toBits (8 * bytesFor n - n) 0 = bits-packed-field l h n en in
+    let el : 8 * length (packed l) ≡ 0 + length (l ++ toBits (8 * bytesFor n - n) 0) = omega (arith, length-bits (packed l), ap length es) in
+    bits-inj new (s ++ drop (length s) old) hn
+    (below-append 256 s (drop (length s) old) (below-packed l h) (below-drop 256 (length s) old ho))
+    (e
+    ∙ sym
+    (bits-append s (drop (length s) old)
+    ∙ ap₂ (λ (x y : List ℕ). x ++ y) es (bits-drop (length s) old ∙ ap (λ (k : ℕ). drop k (bitsOf old)) el)))

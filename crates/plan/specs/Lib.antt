@@ -1,0 +1,4 @@
+pub mod Plan
+pub mod Reading
+pub mod Refusals
+pub mod Answer
