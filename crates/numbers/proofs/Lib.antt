@@ -6,3 +6,4 @@ pub mod DigitLaws
 pub mod NumeratorLaws
 pub mod DepthLaws
 pub mod CountLaws
+pub mod ListedLaws

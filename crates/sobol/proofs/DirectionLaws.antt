@@ -98,6 +98,13 @@ module _ (d p : ℕ) (given : List ℕ) where
       (λ l. let e : i ≡ n = omega arith in rw (e, m-list-last n) (m-next-odd-below g n (mList d p given n) (m-list-odd-below g n)))
       (lt-or-ge i n)
 
+  -- the given ones stay
+  pub m-list-given : (n i : ℕ) → i < d → i < n → getD (mList d p given n) i 0 ≡ getD given i 0
+  m-list-given zero i h l = absurd (not-suc-le-zero l)
+  m-list-given (suc n) i h l =
+      ⊎-elim (λ b. m-list-before n i b ∙ m-list-given n i h b)
+      (λ b. let e : i ≡ n = omega arith in rw (e, m-list-last n) (m-next-given n (mList d p given n) (omega arith))) (lt-or-ge i n)
+
 -- ---- the direction numbers
 
 pub scaled-length : (i : ℕ) (ms : List ℕ) → length (scaled i ms) ≡ length ms

@@ -2,9 +2,18 @@
 ghost use mathlib.Core.Path.{_≡_};
 ghost use Prim.Native.Nat.{_+_, _^_, _<_, _≤_};
 ghost use lib.ListN.{length};
-ghost use Rattle.binary.specs.Polynomial.{Degree, timesX, isPrimitive};
+ghost use Rattle.binary.specs.Polynomial.{Degree, degreeOf, timesX, isPrimitive};
 ghost use Rattle.sobol.specs.Directions.{mRule, mNext, mList, scaled, directions, AllOddBelow};
 ghost use Rattle.sobol.specs.Stepping.{stepped};
+
+// The degree of the polynomial `p`: one less than the number of its binary digits.
+pub fn degree(p: u64) -> usize
+    requires { ⌜ degreeOf p ≤ 12 ⌝ }
+    ensures { λ r. ⌜ r ≡ degreeOf p ⌝ }
+{
+    let k = numbers::digit_count(2, p);
+    if k == 0 { 0 } else { (k - 1) as usize }
+}
 
 // x times `r`, modulo the polynomial `p`; `top` is 2^d.
 fn times_x(r: u64, p: u64, top: u64) -> u64

@@ -1,0 +1,139 @@
+-- A plan's arrays: those of a valid plan are what the functions on arrays ask, and the points by them are the plan's points. Assumes nothing.
+use mathlib.Core.Path.{_≡_, refl, sym, ap, ap₂, _∙_}
+use mathlib.Core.Logic.{⊎-elim}
+use mathlib.Core.List.{List, [], _∷_, _++_, append-assoc}
+use Prim.Native.Nat.{ℕ, zero, suc, _+_, _-_, _*_, _^_, _<_, _≤_}
+use native.Mathlib.Omega.{arith}
+use borrow.Author.Tests.{eq-eqb, ne-eqb}
+use lib.ListN.{length, take, drop, getD, replicate, length-append, List·getD-append}
+use lib.Seq.{take-at, drop-at, drop-drop, getD-append-add}
+use Rattle.numbers.specs.Depth.{denominator}
+use Rattle.numbers.specs.Listed.{listed, padded}
+use Rattle.numbers.proofs.Cases.{lt-or-ge}
+use Rattle.numbers.proofs.ListedLaws.{padded-length, padded-at, zeros-at, listed-same}
+use Rattle.permutation.specs.Families.{imageOf}
+use Rattle.halton.specs.Axis.{numerator}
+use Rattle.sobol.specs.Stepping.{stepped}
+use Rattle.sobol.proofs.DirectionLaws.{directions-length}
+use Rattle.plan.specs.Plan.{Axis, noAxis, ValidAxis, Plan, halton, sobol, Valid}
+use Rattle.points.specs.Point.{axisCount, axisDirections, denominatorOf, numeratorOf, pointOf, pointsFrom}
+use Rattle.points.specs.Arrays.{familyOf, basesArray, directionsIn, directionsArray, directionsAt, numeratorBy, numeratorAt, pointAt, pointsAt, denominatorBy, denominatorAt, Arrays}
+use Rattle.points.proofs.PointLaws.{axis-directions-lt}
+
+-- ---- the direction numbers of several axes
+
+axis-directions-length : (x : Axis) → length (axisDirections x) ≡ 32
+axis-directions-length x = directions-length (length (x .ms)) (x .polynomial) (x .ms)
+
+directions-in-length : (axes : List Axis) → length (directionsIn axes) ≡ 32 * length axes
+unfolding directionsIn
+directions-in-length [] = refl
+directions-in-length (x ∷ axes) =
+    rw (length-append, axis-directions-length x, directions-in-length axes) (omega arith)
+
+directions-in-lt : (axes : List Axis) → ((i : ℕ) → i < length axes → ValidAxis (getD axes i noAxis)) → (j : ℕ)
+    → getD (directionsIn axes) j 0 < 2 ^ 32
+unfolding directionsIn
+directions-in-lt [] v j = omega arith
+directions-in-lt (x ∷ axes) v j =
+    ⊎-elim
+    (λ h. rw (List·getD-append (axisDirections x) (directionsIn axes) 0 j h) (axis-directions-lt x (v 0 (omega arith)) j))
+    (λ h.
+    let k = length (axisDirections x) in
+    let e : j ≡ k + (j - k) = omega arith in
+    rw (e, getD-append-add (axisDirections x) (directionsIn axes) (j - k) 0)
+    (directions-in-lt axes (λ i l. v (suc i) (omega arith)) (j - k)))
+    (lt-or-ge j (length (axisDirections x)))
+
+-- those of axis i stand at 32 i, whatever comes after the last axis
+pub directions-in-at : (axes : List Axis) (rest : List ℕ) (i : ℕ) → i < length axes
+    → directionsAt (directionsIn axes ++ rest) i ≡ axisDirections (getD axes i noAxis)
+unfolding directionsIn
+directions-in-at [] rest i h = absurd (omega arith)
+directions-in-at (x ∷ axes) rest zero h =
+    rw append-assoc (take-at (axisDirections x) (directionsIn axes ++ rest) 32 (axis-directions-length x))
+directions-in-at (x ∷ axes) rest (suc i) h =
+    let e : 32 * suc i ≡ 32 + 32 * i = omega arith in
+    rw (e, ← drop-drop (32 * i) 32, append-assoc, drop-at (axisDirections x) (directionsIn axes ++ rest) 32 (axis-directions-length x))
+    (directions-in-at axes rest i (omega arith))
+
+-- ---- a valid plan's arrays
+
+pub arrays-of : (p : Plan) → Valid p → Arrays (familyOf p) (axisCount p) (basesArray p) (directionsArray p)
+unfolding Valid familyOf axisCount basesArray directionsArray
+arrays-of (halton family bases) v =
+    record {
+      few = v .1 .1;
+      bases-long = padded-length 6 bases (v .1 .1);
+      directions-long = refl;
+      base-low = λ i h f. rw (padded-at 6 bases i) (v .2 .low i h);
+      base-high = λ i h f. rw (padded-at 6 bases i) (v .2 .high i h);
+      directions-low = λ j. omega (arith, zeros-at 192 j);
+    }
+arrays-of (sobol axes) v =
+    record {
+      few = v .0 .1;
+      bases-long = refl;
+      directions-long = padded-length 192 (directionsIn axes) (omega (arith, directions-in-length axes));
+      base-low = λ i h f. absurd (f refl);
+      base-high = λ i h f. absurd (f refl);
+      directions-low = λ j. rw (padded-at 192 (directionsIn axes) j) (directions-in-lt axes (v .1 .valid) j);
+    }
+
+-- ---- points by arrays
+
+pub base-range : {family axes : ℕ} {bases vs : List ℕ} → Arrays family axes bases vs → (i : ℕ) → i < axes → (family ≡ 2 → ⊥)
+    → (2 ≤ getD bases i 0) × (getD bases i 0 ≤ 256)
+base-range a i h f = (a .base-low i h f, a .base-high i h f)
+
+module _ (family : ℕ) (bases vs : List ℕ) where
+  -- the code's part of the direction numbers, from 32 i to 32 i + 32
+  pub numerator-by-part : (n i : ℕ) → family ≡ 2 → stepped (take (32 * i + 32 - 32 * i) (drop (32 * i) vs)) n ≡ numeratorAt family bases vs n i
+  unfolding numeratorAt numeratorBy
+  numerator-by-part n i e =
+      let k : 32 * i + 32 - 32 * i ≡ 32 = omega arith in
+      rw (k, eq-eqb family 2 e)
+
+  pub numerator-by-base : (n i : ℕ) → (family ≡ 2 → ⊥)
+      → numerator (imageOf family (getD bases i 0)) (getD bases i 0) n ≡ numeratorAt family bases vs n i
+  unfolding numeratorAt numeratorBy
+  numerator-by-base n i f = rw (ne-eqb family 2 f)
+
+pub denominator-by-two : (family : ℕ) (bases : List ℕ) (i : ℕ) → family ≡ 2 → 2 ^ 32 ≡ denominatorAt family bases i
+unfolding denominatorAt denominatorBy
+denominator-by-two family bases i e = rw (eq-eqb family 2 e)
+
+pub denominator-by-base : (family : ℕ) (bases : List ℕ) (i : ℕ) → (family ≡ 2 → ⊥) → denominator (getD bases i 0) ≡ denominatorAt family bases i
+unfolding denominatorAt denominatorBy
+denominator-by-base family bases i f = rw (ne-eqb family 2 f)
+
+-- ---- they are the plan's
+
+pub numerator-at-plan : (p : Plan) → Valid p → (n i : ℕ) → i < axisCount p
+    → numeratorAt (familyOf p) (basesArray p) (directionsArray p) n i ≡ numeratorOf p n i
+unfolding Valid familyOf axisCount basesArray directionsArray numeratorAt numeratorBy numeratorOf padded
+numerator-at-plan (halton family bases) v n i h =
+    sym (numerator-by-base family (padded 6 bases) (replicate 192 0) n i (λ e. omega arith)) ∙ rw (padded-at 6 bases i) refl
+numerator-at-plan (sobol axes) v n i h =
+    ap (λ (l : List ℕ). stepped l n) (directions-in-at axes (replicate (192 - length (directionsIn axes)) 0) i h)
+
+pub denominator-at-plan : (p : Plan) → Valid p → (i : ℕ) → denominatorAt (familyOf p) (basesArray p) i ≡ denominatorOf p i
+unfolding Valid familyOf basesArray denominatorOf
+denominator-at-plan (halton family bases) v i =
+    sym (denominator-by-base family (padded 6 bases) i (λ e. omega arith)) ∙ ap denominator (padded-at 6 bases i)
+denominator-at-plan (sobol axes) v i = sym (denominator-by-two 2 (replicate 6 0) i refl)
+
+module _ (p : Plan) (v : Valid p) where
+  listed-at-plan : (n : ℕ)
+      → listed (numeratorAt (familyOf p) (basesArray p) (directionsArray p) n) (axisCount p) ≡ pointOf p n
+  unfolding pointOf
+  listed-at-plan n = listed-same _ _ (axisCount p) (numerator-at-plan p v n)
+
+  pub point-at-plan : (n : ℕ) → pointAt (familyOf p) (axisCount p) (basesArray p) (directionsArray p) n ≡ padded 6 (pointOf p n)
+  unfolding pointAt
+  point-at-plan n = ap (padded 6) (listed-at-plan n)
+
+  pub points-at-plan : (n k : ℕ) → pointsAt (familyOf p) (axisCount p) (basesArray p) (directionsArray p) n k ≡ pointsFrom p n k
+  unfolding pointsAt pointsFrom
+  points-at-plan n zero = refl
+  points-at-plan n (suc k) = ap₂ _++_ (points-at-plan n k) (listed-at-plan (n + k))

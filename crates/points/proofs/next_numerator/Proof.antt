@@ -1,0 +1,83 @@
+-- `points::next_numerator` meets its contract: a Sobol axis steps over its own 32 direction numbers, and a Halton axis in its own base.
+-- Assumes nothing.
+use mathlib.Core.Path.{sym, _∙_}
+use Prim.Native.Nat.{_+_}
+use native.Mathlib.Omega.{arith}
+use borrow.Author.Needs.{needs}
+use Rattle.points.proofs.ArrayLaws.{base-range, numerator-by-part, numerator-by-base}
+use Rattle.points.proofs.next_numerator.Statement.{statement}
+use Rattle.points.proofs.next_numerator.Tie as tie
+
+mul-start : tie.Need-mul-start
+mul-start c = search needs
+
+add-end : tie.Need-add-end
+add-end c = search needs
+
+mul-step : tie.Need-mul-step
+mul-step c = search needs
+
+sub-step : tie.Need-sub-step
+sub-step c = search needs
+
+part-step-start : tie.Need-part-step-start
+part-step-start c = search needs
+
+part-step-end : tie.Need-part-step-end
+part-step-end c = search needs
+
+step-requires : tie.Need-step-requires
+step-requires c κs =
+    let s = c .before .before .before .before in
+    let a = s .args in
+    (search needs, omega arith, s .pre .3 ∙ sym (numerator-by-part (a .family) (a .bases .now) (a .directions .now) (a .n) (a .i) (omega arith)))
+
+returns : tie.Need-returns
+returns c =
+    let a = c .before .before .before .before .before .args in
+    c .step .ensures ∙ numerator-by-part (a .family) (a .bases .now) (a .directions .now) (a .n + 1) (a .i) (omega arith)
+
+mul-b : tie.Need-mul-b
+mul-b c = search needs
+
+shared-slice-read-b : tie.Need-shared-slice-read-b
+shared-slice-read-b c = search needs
+
+denominator-requires : tie.Need-denominator-requires
+denominator-requires c κs =
+    let s = c .before .before .before .before in
+    omega (arith, base-range (s .pre .0) (s .args .i) (omega arith) (λ e. omega arith))
+
+step-requires-2 : tie.Need-step-requires-2
+step-requires-2 c κs =
+    let s = c .before .before .before .before .before in
+    let a = s .args in
+    let range = base-range (s .pre .0) (a .i) (omega arith) (λ e. omega arith) in (
+      range .0,
+      range .1,
+      c .denominator .ensures,
+      s .pre .3 ∙ sym (numerator-by-base (a .family) (a .bases .now) (a .directions .now) (a .n) (a .i) (λ e. omega arith)),
+    )
+
+returns-2 : tie.Need-returns-2
+returns-2 c =
+    let a = c .before .before .before .before .before .before .args in
+    c .step2 .ensures ∙ numerator-by-base (a .family) (a .bases .now) (a .directions .now) (a .n + 1) (a .i) (λ e. omega arith)
+
+pub next-numerator-spec : {M : Type 1} → statement M
+next-numerator-spec =
+    tie.close
+    (tie.spec
+    mul-start
+    add-end
+    mul-step
+    sub-step
+    part-step-start
+    part-step-end
+    step-requires
+    returns
+    mul-b
+    shared-slice-read-b
+    denominator-requires
+    step-requires-2
+    returns-2)

@@ -1,0 +1,137 @@
+// The points of a plan held in arrays: by jump, by steps, and many in a row.
+ghost use mathlib.Core.Path.{_≡_};
+ghost use mathlib.Core.List.{_++_};
+ghost use Prim.Native.Nat.{_+_, _*_, _^_, _<_, _≤_};
+ghost use lib.ListN.{length, take, drop};
+ghost use Rattle.points.specs.Arrays.{numeratorAt, pointAt, denominatorAt, pointsAt, Arrays};
+
+// The numerator of index `n` on axis `i`, by a jump.
+pub fn numerator(
+    family: u64,
+    axes: usize,
+    bases: &[u64],
+    directions: &[u64],
+    n: u64,
+    i: usize,
+) -> u64
+    requires { ⌜ Arrays family axes (now bases) (now directions) × (n < 2 ^ 32) × (i < axes) ⌝ }
+    ensures { λ r. ⌜ r ≡ numeratorAt family (now (bases .entry)) (now (directions .entry)) n i ⌝ }
+{
+    if family == 2 {
+        let from = 32 * i;
+        let to = from + 32;
+        return sobol::jump(&directions[from..to], n);
+    }
+    let x = halton::jump(family, bases[i], n);
+    x.numerator
+}
+
+// The numerator of index `n + 1` on axis `i`, by a step from that of index `n`, which is `x`.
+fn next_numerator(
+    family: u64,
+    axes: usize,
+    bases: &[u64],
+    directions: &[u64],
+    n: u64,
+    i: usize,
+    x: u64,
+) -> u64
+    requires { ⌜ Arrays family axes (now bases) (now directions) × (n + 1 < 2 ^ 32) × (i < axes) × (x ≡ numeratorAt family (now bases) (now directions) n i) ⌝ }
+    ensures { λ r. ⌜ r ≡ numeratorAt family (now (bases .entry)) (now (directions .entry)) (n + 1) i ⌝ }
+{
+    if family == 2 {
+        let start = 32 * i;
+        let end = start + 32;
+        return sobol::step(&directions[start..end], n, x);
+    }
+    let b = bases[i];
+    halton::step(family, b, numbers::denominator(b), n, x)
+}
+
+// The denominator of axis `i`.
+pub fn denominator(family: u64, axes: usize, bases: &[u64], directions: &[u64], i: usize) -> u64
+    requires { ⌜ Arrays family axes (now bases) (now directions) × (i < axes) ⌝ }
+    ensures { λ r. ⌜ r ≡ denominatorAt family (now (bases .entry)) i ⌝ }
+{
+    if family == 2 {
+        return 4294967296;
+    }
+    numbers::denominator(bases[i])
+}
+
+// The point of index `n`, by jumps.
+pub fn point(family: u64, axes: usize, bases: &[u64], directions: &[u64], n: u64) -> [u64; 6]
+    requires { ⌜ Arrays family axes (now bases) (now directions) × (n < 2 ^ 32) ⌝ }
+    ensures { λ r. ⌜ r ≡ pointAt family axes (now (bases .entry)) (now (directions .entry)) n ⌝ }
+{
+    let mut x = [0u64; 6];
+    let mut i = 0;
+    while i < axes {
+        let y = numerator(family, axes, bases, directions, n, i);
+        x[i] = y;
+        i += 1;
+    }
+    x
+}
+
+// The point of index `n + 1`, by a step from that of index `n`, which is `x`.
+pub fn advance(
+    family: u64,
+    axes: usize,
+    bases: &[u64],
+    directions: &[u64],
+    n: u64,
+    x: [u64; 6],
+) -> [u64; 6]
+    requires { ⌜ Arrays family axes (now bases) (now directions) × (n + 1 < 2 ^ 32) × (x ≡ pointAt family axes (now bases) (now directions) n) ⌝ }
+    ensures { λ r. ⌜ r ≡ pointAt family axes (now (bases .entry)) (now (directions .entry)) (n + 1) ⌝ }
+{
+    let mut y = x;
+    let mut i = 0;
+    while i < axes {
+        let z = next_numerator(family, axes, bases, directions, n, i, y[i]);
+        y[i] = z;
+        i += 1;
+    }
+    y
+}
+
+// Writes the first `axes` words of a point to `out` from `at` on.
+pub fn put_point(out: &mut [u64], at: usize, x: [u64; 6], axes: usize)
+    requires { ⌜ (axes ≤ 6) × (at + axes ≤ length (now out)) ⌝ }
+    ensures { λ r. ⌜ now (out .exit) ≡ take at (now (out .entry)) ++ take axes x ++ drop (at + axes) (now (out .entry)) ⌝ }
+{
+    let mut i = 0;
+    while i < axes {
+        out[at + i] = x[i];
+        i += 1;
+    }
+}
+
+// Writes the `k` points of the indexes from `n` on to the front of `out`, by steps from the first, which is `x`.
+pub fn fill(
+    out: &mut [u64],
+    family: u64,
+    axes: usize,
+    bases: &[u64],
+    directions: &[u64],
+    n: u64,
+    x: [u64; 6],
+    k: usize,
+)
+    requires { ⌜ Arrays family axes (now bases) (now directions) × (n + k ≤ 2 ^ 32) × (k * axes ≤ length (now out)) × (x ≡ pointAt family axes (now bases) (now directions) n) ⌝ }
+    ensures { λ r. ⌜ now (out .exit) ≡ pointsAt family axes (now (bases .entry)) (now (directions .entry)) n k ++ drop (k * axes) (now (out .entry)) ⌝ }
+{
+    if k == 0 {
+        return;
+    }
+    put_point(out, 0, x, axes);
+    let mut y = x;
+    let mut i = 1;
+    while i < k {
+        let z = advance(family, axes, bases, directions, n + (i as u64) - 1, y);
+        put_point(out, i * axes, z, axes);
+        y = z;
+        i += 1;
+    }
+}

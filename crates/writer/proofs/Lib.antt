@@ -1,0 +1,4 @@
+-- Laws of what the writer leaves in a buffer.
+pub mod PartLaws
+pub mod AnswerLaws
+pub mod WritableLaws

@@ -1,0 +1,54 @@
+-- What writing a plan, or a part of one, leaves in a buffer. Definitions only.
+use mathlib.Core.Path.{_≡_}
+use mathlib.Core.Bool.{Bool, true, false}
+use mathlib.Core.List.{List, _++_}
+use Prim.Native.Nat.{ℕ, _+_, _≤_, _<_}
+use lib.Dec.{ltb}
+use lib.ListN.{length, drop, getD}
+use Rattle.numbers.specs.Choice.{choose}
+use Rattle.binary.specs.Polynomial.{degreeOf}
+use Rattle.bits.specs.Stream.{bitsOf, overwrite}
+use Rattle.plan.specs.Plan.{Plan, spell}
+
+-- what arrays of a plan have to meet for the writer: no more than six axes, bases from 1 up, degrees up to 12
+pub record Writable (family axes : ℕ) (bases ps ms : List ℕ) : Type 0 where
+  pub kind : family ≤ 2
+  pub count : axes ≤ 6
+  pub bases-long : axes ≤ length bases
+  pub polynomials-long : axes ≤ length ps
+  pub ms-long : 72 ≤ length ms
+  pub base : (k : ℕ) → k < axes → family < 2 → 1 ≤ getD bases k 0
+  pub degree : (k : ℕ) → k < axes → degreeOf (getD ps k 0) ≤ 12
+
+-- a part was written: its bits stand from `start` on, all else as found, and `next` is the bit after it
+pub record Put (old new : List ℕ) (start : ℕ) (x : List ℕ) (next : ℕ) : Type 0 where
+  pub bits : bitsOf new ≡ overwrite (bitsOf old) start x
+  pub size : length new ≡ length old
+  pub after : next ≡ start + length x
+
+-- ---- the writer's answer for a plan and a buffer
+
+-- the plan has no room in the buffer
+abbrev pub noRoom : Plan → List ℕ → Bool
+noRoom p old = ltb (length old) (length (spell p))
+
+-- 13 (room), or 0
+abbrev pub writtenCode : Plan → List ℕ → ℕ
+writtenCode p old = choose (noRoom p old) 13 0
+
+-- the plan's length, 0 where it is refused
+abbrev pub writtenLength : Plan → List ℕ → ℕ
+writtenLength p old = choose (noRoom p old) 0 (length (spell p))
+
+-- the plan's bytes and then what lay behind them, or the buffer as it was
+unfoldable pub writtenIf : Bool → Plan → List ℕ → List ℕ
+writtenIf true p old = old
+writtenIf false p old = spell p ++ drop (length (spell p)) old
+
+abbrev pub written : Plan → List ℕ → List ℕ
+written p old = writtenIf (noRoom p old) p old
+
+pub record Written (p : Plan) (old new : List ℕ) (code len : ℕ) : Type 0 where
+  pub answer : code ≡ writtenCode p old
+  pub reported : len ≡ writtenLength p old
+  pub bytes : new ≡ written p old
