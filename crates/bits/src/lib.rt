@@ -1,4 +1,4 @@
-// Fields of a stream of bits, most significant bit first: out of bytes and back, by shifts and masks.
+// Fields of a stream of bits, most significant bit first: out of bytes and back, by shifts and masks. Also a block of words into a list.
 ghost use mathlib.Core.Path.{_≡_};
 ghost use Prim.Native.Nat.{_+_, _*_, _<_, _≤_};
 ghost use lib.ListN.{length, drop, set};
@@ -63,6 +63,18 @@ pub fn put(out: &mut [u8], at: usize, width: usize, v: u64)
     let mut i = 0;
     while i < width {
         put_bit(out, at + i, (v >> (width - 1 - i)) & 1);
+        i += 1;
+    }
+}
+
+// The list from `at` on becomes the block.
+pub fn store(list: &mut [u64], at: usize, block: &[u64])
+    requires { ⌜ at + length (now block) ≤ length (now list) ⌝ }
+    ensures { λ r. ⌜ now (list .exit) ≡ overwrite (now (list .entry)) at (now (block .entry)) ⌝ }
+{
+    let mut i = 0;
+    while i < block.len() {
+        list[at + i] = block[i];
         i += 1;
     }
 }

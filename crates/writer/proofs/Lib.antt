@@ -2,3 +2,4 @@
 pub mod PartLaws
 pub mod AnswerLaws
 pub mod WritableLaws
+pub mod RoundTrip
