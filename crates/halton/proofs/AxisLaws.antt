@@ -1,7 +1,6 @@
 -- A Halton axis over any permutation of the digits: its numerators are below its denominator, and index 0 gives 0. Assumes nothing.
-use mathlib.Core.Path.{_≡_, refl}
-use Prim.Native.Nat.{ℕ, _<_, _≤_}
-use native.Mathlib.Omega.{arith}
+use mathlib.Core.Path.{_≡_}
+use Prim.Native.Nat.{ℕ, _<_}
 use Rattle.numbers.specs.Depth.{depth, denominator}
 use Rattle.numbers.proofs.NumeratorLaws.{numerator-lt, numerator-zero}
 use Rattle.permutation.specs.Permutes.{Permutes}

@@ -1,10 +1,9 @@
 -- The reversing loop: what it holds after some digits of the index, that one more digit keeps it, and what it has made at the depth.
 -- Over any map σ of the digits. Assumes nothing.
-use mathlib.Core.Path.{_≡_, refl, sym, ap, ap₂, _∙_}
+use mathlib.Core.Path.{_≡_, sym, ap, ap₂, _∙_}
 use Prim.Native.Nat.{ℕ, _+_, _*_, _/_, _%_, _^_, _<_, _≤_}
 use native.Mathlib.Omega.{arith}
 use Rattle.numbers.specs.Digits.{digit, numeratorTo}
-use Rattle.numbers.specs.Depth.{depth}
 use Rattle.numbers.proofs.DigitLaws.{quotient-none, quotient-more}
 use Rattle.numbers.proofs.NumeratorLaws.{numerator-none, numerator-last, numerator-lt}
 use Rattle.numbers.proofs.DepthLaws.{Rising, rising-none, rising-more, rising-depth}

@@ -1,13 +1,11 @@
 -- Powers, sums, and how many digits a number has: the least K with b ^ K above it. Assumes nothing.
 use mathlib.Core.Path.{_≡_, refl, sym, ap, ap₂, _∙_}
-use mathlib.Core.Logic.{_↔_, ⊎-elim}
+use mathlib.Core.Logic.{_↔_}
 use Prim.Native.Nat.{ℕ, zero, suc, _+_, _*_, _/_, _^_, _<_, _≤_, suc-le-suc}
-use native.Mathlib.Nat.{le-refl, le-trans, le-of-eq, lt-of-le-of-lt, lt-of-lt-of-le, div-lt-self, div-lt-iff-lt-mul, pow-zero, pow-suc, pow-le-pow-left, pow-le-pow-right, one-le-pow, div-div-eq-div-mul, div-one, zero-lt-suc, add-mul, zero-mul}
+use native.Mathlib.Nat.{le-refl, lt-of-le-of-lt, lt-of-lt-of-le, div-lt-self, div-lt-iff-lt-mul, pow-zero, pow-suc, pow-le-pow-left, pow-le-pow-right, one-le-pow, div-div-eq-div-mul, div-one, zero-lt-suc, add-mul, zero-mul}
 use native.Mathlib.Numerals.{add-one}
 use native.Mathlib.Omega.{arith}
-use lib.Arith.{le-zero}
 use Rattle.numbers.specs.Digits.{sum, digitCountIn, digitCount}
-use Rattle.numbers.proofs.Cases.{lt-or-ge}
 
 -- ---- powers and quotients
 

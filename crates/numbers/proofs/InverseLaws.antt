@@ -2,7 +2,7 @@
 -- Assumes nothing.
 use mathlib.Core.Path.{_≡_, refl, sym, ap, _∙_}
 use mathlib.Core.Logic.{_↔_}
-use Prim.Native.Nat.{ℕ, zero, suc, _+_, _-_, _*_, _%_, _/_, _≤_, _<_, _∣_, suc-le-suc}
+use Prim.Native.Nat.{ℕ, zero, suc, _+_, _-_, _*_, _%_, _/_, _≤_, _<_, suc-le-suc}
 use native.Mathlib.Nat.{le-refl, add-mod, mod-lt, mod-zero, zero-mod, zero-mul, zero-lt-suc, suc-ne-zero, mod-eq-of-lt, add-mul-mod-self-left, add-mod-right, mul-comm, mul-assoc, one-mul, suc-mul, mod-add-div, dvd-mod-iff, dvd-mul-right, dvd-mul-right-of-dvd, eq-one-of-dvd-one}
 use native.Mathlib.Omega.{arith}
 use Rattle.numbers.specs.Gcd.{gcdIn, gcd, Coprime, Invertible}

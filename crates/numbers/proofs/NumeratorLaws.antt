@@ -1,11 +1,11 @@
 -- The numerator of k digits by its last digit and by its first, its range, and what it says of the index. Over any map σ of the digits.
 -- Assumes nothing.
-use mathlib.Core.Path.{_≡_, refl, sym, ap, ap₂, _∙_, subst}
-use Prim.Native.Nat.{ℕ, zero, suc, _+_, _-_, _*_, _/_, _%_, _^_, _<_, _≤_}
-use native.Mathlib.Nat.{pow-zero, pow-suc, mod-lt, mul-assoc, mul-comm, mul-one, add-mul, add-assoc, add-zero, add-suc, zero-add, zero-mul, zero-mod, zero-div, div-one, div-div-eq-div-mul, div-add-mod', mul-add-mod-self-right, mul-add-div-right}
+use mathlib.Core.Path.{_≡_, refl, sym, ap, ap₂, _∙_}
+use Prim.Native.Nat.{ℕ, zero, suc, _+_, _-_, _*_, _/_, _%_, _^_, _<_}
+use native.Mathlib.Nat.{pow-zero, pow-suc, mod-lt, mul-assoc, mul-comm, mul-one, add-mul, add-assoc, add-zero, add-suc, zero-mul, zero-mod, zero-div, div-one, div-div-eq-div-mul, div-add-mod', mul-add-mod-self-right, mul-add-div-right}
 use native.Mathlib.Numerals.{add-one, suc-eq-add-one}
 use native.Mathlib.Omega.{arith}
-use lib.Arith.{digits-lt, digits-div, lt-one}
+use lib.Arith.{digits-lt, digits-div}
 use Rattle.numbers.specs.Digits.{digit, sum, term, numeratorTo}
 use Rattle.numbers.proofs.DigitLaws.{pow-one-more, quotient-none, sum-ext, sum-times, sum-one-more}
 

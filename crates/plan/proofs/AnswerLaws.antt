@@ -4,27 +4,16 @@ use mathlib.Core.Path.{_≡_, refl, sym, ap, ap₂, _∙_}
 use mathlib.Core.List.{List, [], _∷_, _++_, append-assoc}
 use Prim.Native.Nat.{ℕ, zero, suc, _+_, _-_, _*_, _≤_, _<_}
 use native.Mathlib.Omega.{arith}
-use lib.ListN.{length, take, drop, getD, replicate, length-append, length-replicate, List·getD-append}
+use lib.ListN.{length, take, drop, getD, replicate}
 use lib.Seq.{take-at, take-suc, take-length, drop-append-add}
 use borrow.Author.Tests.{ne-eqb}
 use Rattle.numbers.specs.Listed.{padded}
+use Rattle.numbers.proofs.ListedLaws.{padded-length, padded-at, padded-take}
 use Rattle.binary.specs.Polynomial.{degreeOf}
 use Rattle.binary.proofs.DegreeLaws.{degree-of}
 use Rattle.plan.specs.Plan.{Axis, noAxis, Plan, halton, sobol, ValidAxes, Valid}
 use Rattle.plan.specs.Reading.{accepted}
 use Rattle.plan.specs.Answer.{polynomialsOf, msOf, answerOf, axisAt, axesOf, planBy, planOf}
-
-pub take-padded : (n : ℕ) (l : List ℕ) → take (length l) (padded n l) ≡ l
-unfolding padded
-take-padded n l = take-at l (replicate (n - length l) 0) (length l) refl
-
-pub length-padded : (n : ℕ) (l : List ℕ) → length l ≤ n → length (padded n l) ≡ n
-unfolding padded
-length-padded n l h = length-append l (replicate (n - length l) 0) ∙ omega (arith, length-replicate {A = ℕ} (n - length l) 0)
-
-pub padded-at : (n : ℕ) (l : List ℕ) (i : ℕ) → i < length l → getD (padded n l) i 0 ≡ getD l i 0
-unfolding padded
-padded-at n l i h = List·getD-append l (replicate (n - length l) 0) 0 i h
 
 pub length-polynomials : (axes : List Axis) → length (polynomialsOf axes) ≡ length axes
 unfolding polynomialsOf
@@ -43,14 +32,14 @@ unfolding msOf padded
 ms-at [] z fit i h = absurd (omega arith)
 ms-at (x ∷ axes) z fit zero h = simp append-assoc (take-at (x .ms) _ (length (x .ms)) refl)
 ms-at (x ∷ axes) z fit (suc i) h =
-    let e : 12 * suc i ≡ length (padded 12 (x .ms)) + 12 * i = omega (arith, length-padded 12 (x .ms) (fit 0 (omega arith))) in
+    let e : 12 * suc i ≡ length (padded 12 (x .ms)) + 12 * i = omega (arith, padded-length 12 (x .ms) (fit 0 (omega arith))) in
     rw (e, append-assoc (padded 12 (x .ms)) (msOf axes) z, drop-append-add) (ms-at axes z (λ j k. fit (suc j) (omega arith)) i (omega arith))
 
 module _ (axes : List Axis) (v : ValidAxes axes) where
   axis-back : (i : ℕ) → i < length axes → axisAt (padded 6 (polynomialsOf axes)) (padded 72 (msOf axes)) i ≡ getD axes i noAxis
   axis-back i h =
       let ep : getD (padded 6 (polynomialsOf axes)) i 0 ≡ getD axes i noAxis .polynomial =
-      padded-at 6 (polynomialsOf axes) i (omega (arith, length-polynomials axes)) ∙ polynomial-at axes i h in
+      padded-at 6 (polynomialsOf axes) i ∙ polynomial-at axes i h in
       let ed : degreeOf (getD axes i noAxis .polynomial) ≡ length (getD axes i noAxis .ms) = degree-of (v .valid i h .degree) in
       let em : take (length (getD axes i noAxis .ms)) (drop (12 * i) (padded 72 (msOf axes))) ≡ getD axes i noAxis .ms =
       unfold padded in (ms-at axes (replicate (72 - length (msOf axes)) 0) (λ j k. v .valid j k .degree-high) i h) in
@@ -63,5 +52,5 @@ module _ (axes : List Axis) (v : ValidAxes axes) where
 
 pub plan-of-answer : (p : Plan) → Valid p → let a = answerOf (accepted p) in planOf (a .family) (a .axes) (a .bases) (a .polynomials) (a .ms) ≡ p
 unfolding answerOf planOf planBy Valid
-plan-of-answer (halton family bases) v = rw (ne-eqb family 2 (λ e. omega arith)) (ap (halton family) (take-padded 6 bases))
+plan-of-answer (halton family bases) v = rw (ne-eqb family 2 (λ e. omega arith)) (ap (halton family) (padded-take 6 bases (length bases) refl))
 plan-of-answer (sobol axes) v = ap sobol (axes-back axes (v .1) (length axes) (omega arith) ∙ take-length axes)

@@ -1,7 +1,6 @@
 -- The direction numbers of a Sobol axis. A polynomial of degree d is the number p whose digit d - k is a_k, with a_0 = a_d = 1.
 -- A list of m's has m_1 first, so that m_(i+1) stands at place i. Definitions only.
 use mathlib.Core.Path.{_≡_}
-use mathlib.Core.Bool.{Bool, true, false}
 use mathlib.Core.List.{List, [], _∷_, _++_}
 use Prim.Native.Nat.{ℕ, zero, suc, _-_, _*_, _/_, _%_, _^_, _<_}
 use lib.Dec.{ltb}

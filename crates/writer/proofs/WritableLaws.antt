@@ -11,7 +11,8 @@ use Rattle.binary.proofs.DegreeLaws.{degree-of}
 use Rattle.plan.specs.Plan.{Plan, halton, sobol, Valid}
 use Rattle.plan.specs.Reading.{accepted}
 use Rattle.plan.specs.Answer.{answerOf, polynomialsOf}
-use Rattle.plan.proofs.AnswerLaws.{padded-at, length-polynomials, polynomial-at}
+use Rattle.numbers.proofs.ListedLaws.{padded-at}
+use Rattle.plan.proofs.AnswerLaws.{polynomial-at}
 use Rattle.writer.specs.Parts.{Writable}
 
 padded-long : (n : ℕ) (l : List ℕ) → n ≤ length (padded n l)
@@ -32,7 +33,7 @@ writable-of (halton family bases) v =
       bases-long = omega (arith, padded-long 6 bases);
       polynomials-long = omega arith;
       ms-long = omega arith;
-      base = λ k h low. omega (arith, padded-at 6 bases k h, v .2 .low k h);
+      base = λ k h low. omega (arith, padded-at 6 bases k, v .2 .low k h);
       degree = λ k h. no-degree k (omega arith);
     }
 writable-of (sobol axes) v =
@@ -44,7 +45,7 @@ writable-of (sobol axes) v =
       ms-long = padded-long 72 _;
       base = λ k h low. absurd (omega arith);
       degree = λ k h.
-          let e = padded-at 6 (polynomialsOf axes) k (omega (arith, length-polynomials axes)) ∙ polynomial-at axes k h in
+          let e = padded-at 6 (polynomialsOf axes) k ∙ polynomial-at axes k h in
           let v = v .1 .valid k h in
           rw e (omega (arith, degree-of (v .degree), v .degree-high));
     }

@@ -1,5 +1,5 @@
 -- Each turn takes one digit, by Horner's rule; at 2^32 or above the power says that the depth is reached. Assumes nothing.
-use Prim.Native.Nat.{ℕ, _+_, _-_, _*_, _/_, _%_, _^_, _<_}
+use Prim.Native.Nat.{_+_, _-_, _*_, _/_, _%_, _^_, _<_}
 use native.Mathlib.Nat.{mod-lt}
 use native.Mathlib.Omega.{arith}
 use Rattle.numbers.proofs.DepthLaws.{rising-pos, rising-fits, rising-nears}

@@ -1,6 +1,6 @@
 -- The loop carries over the digits that are the last of the base; y and the answer stay below the denominator. Assumes nothing.
 use mathlib.Core.Path.{_≡_}
-use Prim.Native.Nat.{ℕ, _+_, _-_, _*_, _^_, _≤_, _<_}
+use Prim.Native.Nat.{_+_, _-_, _*_, _^_, _≤_, _<_}
 use native.Mathlib.Nat.{mod-lt, div-lt-self}
 use native.Mathlib.Omega.{arith}
 use Rattle.numbers.proofs.DepthLaws.{denominator-lt}

@@ -1,6 +1,6 @@
 -- The digits counted and those of what is left are together the digits of n. Assumes nothing.
 use mathlib.Core.Path.{_≡_, ap}
-use Prim.Native.Nat.{ℕ, _+_}
+use Prim.Native.Nat.{_+_}
 use native.Mathlib.Nat.{zero-add, div-lt-self}
 use native.Mathlib.Omega.{arith}
 use Rattle.numbers.specs.Digits.{digitCount}
