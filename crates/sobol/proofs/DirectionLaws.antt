@@ -136,6 +136,24 @@ module _ (d p : ℕ) (given : List ℕ) where
       (λ l. rw (List·getD-eq-default (directions d p given) 0 {n = j} (omega (arith, directions-length))) (pow-pos 32))
       (lt-or-ge j 32)
 
+-- the given ones from the d-th on don't matter
+module _ (d p : ℕ) (a b : List ℕ) (same : (j : ℕ) → j < d → getD a j 0 ≡ getD b j 0) where
+  m-next-same : (i : ℕ) (ms : List ℕ) → mNext d p a i ms ≡ mNext d p b i ms
+  m-next-same i ms =
+      ⊎-elim (λ h. m-next-given d p a i ms h ∙ same i h ∙ sym (m-next-given d p b i ms h))
+      (λ h. m-next-rule d p a i ms h ∙ sym (m-next-rule d p b i ms h)) (lt-or-ge i d)
+
+  m-list-same : (n : ℕ) → mList d p a n ≡ mList d p b n
+  unfolding mList
+  m-list-same zero = refl
+  m-list-same (suc i) =
+      let ih : mList d p a i ≡ mList d p b i = m-list-same i in
+      ap₂ (λ (l : List ℕ) (x : ℕ). l ++ (x ∷ [])) ih (ap (λ (l : List ℕ). mNext d p a i l) ih ∙ m-next-same i (mList d p b i))
+
+  pub directions-given : directions d p a ≡ directions d p b
+  unfolding directions
+  directions-given = ap (scaled 0) (m-list-same 32)
+
 -- ---- one turn of the loop over the terms
 
 module _ (d p : ℕ) (m : List ℕ) (i k x : ℕ) where
