@@ -1,0 +1,4 @@
+-- Laws of the test.
+pub mod WordLaws
+pub mod SpellableLaws
+pub mod TestLaws

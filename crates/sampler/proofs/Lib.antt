@@ -1,0 +1,4 @@
+-- Laws of the calls: one for each answer, what is written, and what calls in a row come to.
+pub mod CaseLaws
+pub mod PointLaws
+pub mod RunLaws

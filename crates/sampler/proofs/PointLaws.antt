@@ -1,0 +1,83 @@
+-- What putting a point at the front of a buffer leaves, for the point that a genuine state holds and for any point of its plan. Assumes nothing.
+use mathlib.Core.Path.{_≡_, refl, sym, ap, _∙_}
+use mathlib.Core.Bool.{true}
+use mathlib.Core.List.{List, _++_}
+use Prim.Native.Nat.{ℕ, _+_, _*_, _/_, _^_, _≤_, _<_, min}
+use native.Mathlib.Nat.{le-trans, mul-le-mul-right, div-mul-le-self, min-le-left, min-le-right}
+use native.Mathlib.Omega.{arith}
+use lib.ListN.{take, drop}
+use Rattle.numbers.proofs.ListedLaws.{padded-take}
+use Rattle.plan.specs.Plan.{Plan, Valid}
+use Rattle.points.specs.Point.{axisCount, numeratorOf, denominatorOf, pointOf, pointsFrom}
+use Rattle.points.specs.Arrays.{numeratorAt, denominatorAt, pointAt, pointsAt, Arrays}
+use Rattle.points.proofs.PointLaws.{axis-count, denominator-of-lt, numerator-of-lt, point-of-length}
+use Rattle.points.proofs.ArrayLaws.{numerator-at-plan, denominator-at-plan}
+use Rattle.state.specs.State.{planIn, genuine}
+use Rattle.state.specs.declared.Sampler.{Sampler}
+use Rattle.state.proofs.GenuineLaws.{Genuine, genuine-is}
+use Rattle.state.proofs.StateLaws.{Holds, genuine-holds, genuine-arrays, genuine-point, genuine-points, genuine-current}
+
+module _ {p : Plan} {family axes : ℕ} {bases vs : List ℕ} (h : Holds p family axes bases vs) (v : Valid p) where
+  holds-numerator : (n i : ℕ) → i < axes → numeratorAt family bases vs n i ≡ numeratorOf p n i
+  holds-numerator n i l =
+      rw (h .family-is, h .bases-is, h .directions-is) (numerator-at-plan p v n i (omega (arith, h .axes-is)))
+
+  holds-denominator : (i : ℕ) → denominatorAt family bases i ≡ denominatorOf p i
+  holds-denominator i = rw (h .family-is, h .bases-is) (denominator-at-plan p v i)
+
+module _ (s : Sampler) (g : genuine s ≡ true) where
+  is : Genuine s
+  is = genuine-is s g
+
+  axes-are : s .axes ≡ axisCount (planIn s)
+  axes-are = genuine-holds is .axes-is
+
+  pub axes-few : (1 ≤ s .axes) × (s .axes ≤ 6)
+  axes-few = let h = axis-count (planIn s) (is .valid) in (omega (arith, axes-are, h .0), omega (arith, axes-are, h .1))
+
+  -- the front of the words that hold a point is the point
+  pub point-front : (n : ℕ) → take (s .axes) (pointAt (s .family) (s .axes) (s .bases) (s .directions) n) ≡ pointOf (planIn s) n
+  point-front n =
+      ap (take (s .axes)) (genuine-point is n) ∙ padded-take 6 (pointOf (planIn s) n) (s .axes) (point-of-length (planIn s) n ∙ sym axes-are)
+
+  -- a point put at the front of a buffer
+  pub point-put : (buf new x : List ℕ) (n : ℕ) → x ≡ pointAt (s .family) (s .axes) (s .bases) (s .directions) n
+      → new ≡ take 0 buf ++ take (s .axes) x ++ drop (0 + s .axes) buf → new ≡ pointOf (planIn s) n ++ drop (s .axes) buf
+  point-put buf new x n e put = let z : 0 + s .axes ≡ s .axes = omega arith in put ∙ rw (e, point-front n, z) refl
+
+  -- points put one after another
+  pub points-put : (buf new : List ℕ) (n k : ℕ) → new ≡ pointsAt (s .family) (s .axes) (s .bases) (s .directions) n k ++ drop (k * s .axes) buf
+      → new ≡ pointsFrom (planIn s) n k ++ drop (k * s .axes) buf
+  points-put buf new n k put = put ∙ rw (genuine-points is n k) refl
+
+  pub known-arrays : Arrays (s .family) (s .axes) (s .bases) (s .directions)
+  known-arrays = genuine-arrays is
+
+  pub known-run : (s .start + s .count ≤ 2 ^ 32) × (s .taken ≤ s .count)
+  known-run = (is .run .in-range, is .run .not-past)
+
+  pub known-next : s .taken < s .count → s .numerators ≡ pointAt (s .family) (s .axes) (s .bases) (s .directions) (s .start + s .taken)
+  known-next h = genuine-current is h
+
+  -- ---- one axis
+
+  module _ (i : ℕ) (low : i < s .axes) (n : ℕ) where
+    pub known-numerator : numeratorAt (s .family) (s .bases) (s .directions) n i ≡ numeratorOf (planIn s) n i
+    known-numerator = holds-numerator (genuine-holds is) (is .valid) n i low
+
+    pub known-denominator : denominatorAt (s .family) (s .bases) i ≡ denominatorOf (planIn s) i
+    known-denominator = holds-denominator (genuine-holds is) (is .valid) i
+
+    -- the numerator is below the denominator, and that below 2 ^ 40
+    pub fraction-small : (numeratorOf (planIn s) n i < denominatorOf (planIn s) i) × (denominatorOf (planIn s) i < 2 ^ 40)
+    fraction-small =
+        let l : i < axisCount (planIn s) = omega (arith, axes-are) in
+        (numerator-of-lt (planIn s) (is .valid) n i l, denominator-of-lt (planIn s) (is .valid) i l)
+
+-- ---- the size of a block
+
+pub block-fits : (left room axes k : ℕ) → k ≡ min left (room / axes) → (k ≤ left) × (k * axes ≤ room)
+block-fits left room axes k e = (
+  omega (arith, e, min-le-left left (room / axes)),
+  le-trans (mul-le-mul-right axes (omega (arith, e, min-le-right left (room / axes)))) (div-mul-le-self room axes),
+)

@@ -1,0 +1,170 @@
+-- The arrays of an accepted answer and of a genuine state are its plan's, so that the points by them are the plan's points. Assumes nothing.
+use mathlib.Core.Path.{_≡_, refl, sym, ap, _∙_}
+use mathlib.Core.List.{List}
+use Prim.Native.Nat.{ℕ, _+_, _<_, _≤_}
+use native.Mathlib.Omega.{arith}
+use lib.Dec.{ltb}
+use lib.ListN.{replicate, take}
+use borrow.Author.Tests.{lt-ltb, le-ltb, eq-eqb, ne-eqb}
+use Rattle.numbers.specs.Listed.{padded}
+use Rattle.plan.specs.Plan.{Plan, halton, sobol, Valid}
+use Rattle.plan.specs.Reading.{accepted}
+use Rattle.plan.specs.Answer.{answerOf, axesOf, planBy, planOf, planAnswered, Accepted}
+use Rattle.plan.specs.declared.PlanRead.{PlanRead}
+use Rattle.points.specs.Point.{axisCount, pointOf, pointsFrom}
+use Rattle.points.specs.Arrays.{familyOf, basesArray, polynomialsArray, directionsIn, directionsArray, pointAt, pointsAt, Arrays}
+use Rattle.points.proofs.PointLaws.{axis-count}
+use Rattle.points.proofs.ArrayLaws.{arrays-of, point-at-plan, points-at-plan}
+use Rattle.state.specs.State.{pick, nextPoint, made, planIn}
+use Rattle.state.specs.declared.Sampler.{Sampler}
+use Rattle.state.proofs.GenuineLaws.{Genuine}
+
+-- ---- the next point
+
+pub next-some : (p : Plan) (start count taken : ℕ) → taken < count → padded 6 (pointOf p (start + taken)) ≡ nextPoint p start count taken
+unfolding nextPoint
+next-some p start count taken h = rw (lt-ltb taken count h)
+
+pub next-none : (p : Plan) (start count taken : ℕ) → count ≤ taken → replicate 6 0 ≡ nextPoint p start count taken
+unfolding nextPoint
+next-none p start count taken h = rw (le-ltb taken count h)
+
+-- ---- arrays that are a plan's
+
+pub record Holds (p : Plan) (family axes : ℕ) (bases vs : List ℕ) : Type 0 where
+  pub family-is : family ≡ familyOf p
+  pub axes-is : axes ≡ axisCount p
+  pub bases-is : bases ≡ basesArray p
+  pub directions-is : vs ≡ directionsArray p
+
+module _ {p : Plan} {family axes : ℕ} {bases vs : List ℕ} (h : Holds p family axes bases vs) (v : Valid p) where
+  pub holds-arrays : Arrays family axes bases vs
+  holds-arrays = rw (h .family-is, h .axes-is, h .bases-is, h .directions-is) (arrays-of p v)
+
+  pub holds-point : (n : ℕ) → pointAt family axes bases vs n ≡ padded 6 (pointOf p n)
+  holds-point n = rw (h .family-is, h .axes-is, h .bases-is, h .directions-is) (point-at-plan p v n)
+
+  pub holds-points : (n k : ℕ) → pointsAt family axes bases vs n k ≡ pointsFrom p n k
+  holds-points n k = rw (h .family-is, h .axes-is, h .bases-is, h .directions-is) (points-at-plan p v n k)
+
+  pub holds-next : (start count taken : ℕ)
+      → pick (ltb taken count) (pointAt family axes bases vs (start + taken)) (replicate 6 0) ≡ nextPoint p start count taken
+  unfolding nextPoint
+  holds-next start count taken = ap (λ (x : List ℕ). pick (ltb taken count) x (replicate 6 0)) (holds-point (start + taken))
+
+-- the state of these arrays
+pub holds-made : {p : Plan} {family axes : ℕ} {bases vs : List ℕ} → Holds p family axes bases vs → (ps x : List ℕ) (start count taken : ℕ)
+    → ps ≡ polynomialsArray p → x ≡ nextPoint p start count taken
+    → _≡_ {A = Sampler} (record {
+      family = family;
+      axes = axes;
+      bases = bases;
+      polynomials = ps;
+      directions = vs;
+      start = start;
+      count = count;
+      taken = taken;
+      numerators = x;
+    }) (made p start count taken)
+unfolding made
+holds-made h ps x start count taken e f =
+    λ j. record {
+      family = h .family-is j;
+      axes = h .axes-is j;
+      bases = h .bases-is j;
+      polynomials = e j;
+      directions = h .directions-is j;
+      start = start;
+      count = count;
+      taken = taken;
+      numerators = f j;
+    }
+
+-- ---- an answer's
+
+answer-holds : (p : Plan) → let a = answerOf (accepted p) in Holds p (a .family) (a .axes) (a .bases) (directionsArray p)
+unfolding answerOf familyOf axisCount basesArray
+answer-holds (halton family bases) = record { family-is = refl; axes-is = refl; bases-is = refl; directions-is = refl }
+answer-holds (sobol axes) = record { family-is = refl; axes-is = refl; bases-is = refl; directions-is = refl }
+
+answer-polynomials : (p : Plan) → answerOf (accepted p) .polynomials ≡ polynomialsArray p
+unfolding answerOf polynomialsArray
+answer-polynomials (halton family bases) = refl
+answer-polynomials (sobol axes) = refl
+
+module _ {a : PlanRead} (h : Accepted a) where
+  pub accepted-holds : (vs : List ℕ) → vs ≡ directionsArray (planAnswered a) → Holds (planAnswered a) (a .family) (a .axes) (a .bases) vs
+  accepted-holds vs e =
+      let k = answer-holds (planAnswered a) in
+      record {
+        family-is = ap (λ (b : PlanRead). b .family) (h .is) ∙ k .family-is;
+        axes-is = ap (λ (b : PlanRead). b .axes) (h .is) ∙ k .axes-is;
+        bases-is = ap (λ (b : PlanRead). b .bases) (h .is) ∙ k .bases-is;
+        directions-is = e;
+      }
+
+  pub accepted-polynomials : a .polynomials ≡ polynomialsArray (planAnswered a)
+  accepted-polynomials = ap (λ (b : PlanRead). b .polynomials) (h .is) ∙ answer-polynomials (planAnswered a)
+
+  pub accepted-few : a .axes ≤ 6
+  accepted-few = omega (arith, accepted-holds (directionsArray (planAnswered a)) refl .axes-is, axis-count (planAnswered a) (h .valid))
+
+module _ (a : PlanRead) where
+  pub answered-sobol : a .family ≡ 2 → planAnswered a ≡ sobol (axesOf (a .polynomials) (a .ms) (a .axes))
+  unfolding planOf planBy
+  answered-sobol e = rw (eq-eqb (a .family) 2 e)
+
+  answered-halton : (a .family ≡ 2 → ⊥) → planAnswered a ≡ halton (a .family) (take (a .axes) (a .bases))
+  unfolding planOf planBy
+  answered-halton f = rw (ne-eqb (a .family) 2 f)
+
+  pub directions-sobol : a .family ≡ 2 → padded 192 (directionsIn (axesOf (a .polynomials) (a .ms) (a .axes))) ≡ directionsArray (planAnswered a)
+  unfolding directionsArray
+  directions-sobol e = ap directionsArray (sym (answered-sobol e))
+
+  pub directions-halton : (a .family ≡ 2 → ⊥) → replicate 192 0 ≡ directionsArray (planAnswered a)
+  unfolding directionsArray
+  directions-halton f = ap directionsArray (sym (answered-halton f))
+
+-- ---- a genuine state's
+
+module _ {s : Sampler} (g : Genuine s) where
+  pub genuine-holds : Holds (planIn s) (s .family) (s .axes) (s .bases) (s .directions)
+  unfolding made
+  genuine-holds =
+      record {
+        family-is = ap (λ (t : Sampler). t .family) (g .is);
+        axes-is = ap (λ (t : Sampler). t .axes) (g .is);
+        bases-is = ap (λ (t : Sampler). t .bases) (g .is);
+        directions-is = ap (λ (t : Sampler). t .directions) (g .is);
+      }
+
+  pub genuine-polynomials : s .polynomials ≡ polynomialsArray (planIn s)
+  unfolding made
+  genuine-polynomials = ap (λ (t : Sampler). t .polynomials) (g .is)
+
+  pub genuine-next : s .numerators ≡ nextPoint (planIn s) (s .start) (s .count) (s .taken)
+  unfolding made
+  genuine-next = ap (λ (t : Sampler). t .numerators) (g .is)
+
+  pub genuine-arrays : Arrays (s .family) (s .axes) (s .bases) (s .directions)
+  genuine-arrays = holds-arrays genuine-holds (g .valid)
+
+  pub genuine-point : (n : ℕ) → pointAt (s .family) (s .axes) (s .bases) (s .directions) n ≡ padded 6 (pointOf (planIn s) n)
+  genuine-point = holds-point genuine-holds (g .valid)
+
+  pub genuine-points : (n k : ℕ) → pointsAt (s .family) (s .axes) (s .bases) (s .directions) n k ≡ pointsFrom (planIn s) n k
+  genuine-points = holds-points genuine-holds (g .valid)
+
+  -- where a point is left, the state has it
+  pub genuine-current : s .taken < s .count → s .numerators ≡ pointAt (s .family) (s .axes) (s .bases) (s .directions) (s .start + s .taken)
+  genuine-current h =
+      genuine-next ∙ sym (next-some (planIn s) (s .start) (s .count) (s .taken) h) ∙ sym (genuine-point (s .start + s .taken))
+
+  -- where another is left, it is the one after
+  pub genuine-stepped : s .taken + 1 < s .count
+      → pointAt (s .family) (s .axes) (s .bases) (s .directions) (s .start + s .taken + 1) ≡ nextPoint (planIn s) (s .start) (s .count) (s .taken + 1)
+  genuine-stepped h =
+      let e : s .start + s .taken + 1 ≡ s .start + (s .taken + 1) = omega arith in
+      genuine-point (s .start + s .taken + 1) ∙ ap (λ (n : ℕ). padded 6 (pointOf (planIn s) n)) e
+      ∙ next-some (planIn s) (s .start) (s .count) (s .taken + 1) h

@@ -1,0 +1,100 @@
+-- The sampler's state: what a plan, a run and the number of points taken leave, and the test that a state is such a one. Definitions only.
+use mathlib.Core.List.{List, [], _∷_}
+use mathlib.Core.Bool.{Bool, true, false}
+use Prim.Native.Nat.{ℕ, _+_, _-_, _*_, _/_, _%_, _^_}
+use lib.Dec.{ltb, leb, eqb}
+use lib.ListN.{getD, replicate}
+use Rattle.numbers.specs.Listed.{listed, padded}
+use Rattle.plan.specs.Plan.{Plan, spell}
+use Rattle.plan.specs.Reading.{Reading, refused, accepted, readPlan}
+use Rattle.plan.specs.Answer.{planOf}
+use Rattle.points.specs.Point.{axisCount, pointOf}
+use Rattle.points.specs.Arrays.{familyOf, basesArray, polynomialsArray, directionsArray}
+use Rattle.state.specs.declared.Sampler.{Sampler}
+
+abbrev pub pick : {A : Type 0} → Bool → A → A → A
+pick true a b = a
+pick false a b = b
+
+unfoldable pub both : Bool → Bool → Bool
+both true b = b
+both false b = false
+
+-- ---- the state of a run
+
+-- the point of the run's next index, and zeros where no point is left, 0 on the axes that the plan lacks
+unfoldable pub nextPoint : Plan → ℕ → ℕ → ℕ → List ℕ
+nextPoint p start count taken = pick (ltb taken count) (padded 6 (pointOf p (start + taken))) (replicate 6 0)
+
+-- the state with this plan and run, so many of whose points are taken
+unfoldable pub made : Plan → ℕ → ℕ → ℕ → Sampler
+made p start count taken = record {
+  family = familyOf p;
+  axes = axisCount p;
+  bases = basesArray p;
+  polynomials = polynomialsArray p;
+  directions = directionsArray p;
+  start = start;
+  count = count;
+  taken = taken;
+  numerators = nextPoint p start count taken;
+}
+
+-- the blank state, all zero
+unfoldable pub blank : Sampler
+blank = record {
+  family = 0;
+  axes = 0;
+  bases = replicate 6 0;
+  polynomials = replicate 6 0;
+  directions = replicate 192 0;
+  start = 0;
+  count = 0;
+  taken = 0;
+  numerators = replicate 6 0;
+}
+
+-- ---- the plan that a state holds
+
+-- The m at place k, 12 places for each axis, by the direction numbers: v_(j+1) is m_(j+1) × 2^(31-j).
+unfoldable pub mAt : List ℕ → ℕ → ℕ
+mAt vs k = getD vs (32 * (k / 12) + k % 12) 0 / 2 ^ (31 - k % 12)
+
+unfoldable pub msIn : List ℕ → List ℕ
+msIn vs = listed (mAt vs) 72
+
+unfoldable pub planIn : Sampler → Plan
+planIn s = planOf (s .family) (s .axes) (s .bases) (s .polynomials) (msIn (s .directions))
+
+-- ---- the test
+
+-- start + count is at most 2^32, and no more points are taken than there are
+unfoldable pub permitted : ℕ → ℕ → ℕ → Bool
+permitted start count taken = both (leb (start + count) (2 ^ 32)) (leb taken count)
+
+unfoldable pub sameWords : List ℕ → List ℕ → Bool
+sameWords [] [] = true
+sameWords [] (y ∷ ys) = false
+sameWords (x ∷ xs) [] = false
+sameWords (x ∷ xs) (y ∷ ys) = both (eqb x y) (sameWords xs ys)
+
+unfoldable pub samePlan : Sampler → Sampler → Bool
+samePlan s t =
+    both (eqb (s .family) (t .family)) (both (eqb (s .axes) (t .axes))
+    (both (sameWords (s .bases) (t .bases)) (both (sameWords (s .polynomials) (t .polynomials)) (sameWords (s .directions) (t .directions)))))
+
+unfoldable pub sameRun : Sampler → Sampler → Bool
+sameRun s t =
+    both (eqb (s .start) (t .start)) (both (eqb (s .count) (t .count)) (both (eqb (s .taken) (t .taken)) (sameWords (s .numerators) (t .numerators))))
+
+unfoldable pub sameState : Sampler → Sampler → Bool
+sameState s t = both (samePlan s t) (sameRun s t)
+
+unfoldable pub genuineBy : Reading → Sampler → Bool
+genuineBy (refused n) s = false
+genuineBy (accepted p) s =
+    both (permitted (s .start) (s .count) (s .taken)) (sameState s (made p (s .start) (s .count) (s .taken)))
+
+-- A state is genuine if the plan that it holds, spelled and read again, makes the very same state. Any other is foreign (number 15).
+unfoldable pub genuine : Sampler → Bool
+genuine s = genuineBy (readPlan (spell (planIn s))) s

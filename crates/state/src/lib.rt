@@ -1,0 +1,163 @@
+// The sampler's state: made of a plan and a run, and moved on.
+use plan::PlanRead;
+ghost use mathlib.Core.Path.{_≡_};
+ghost use mathlib.Core.Bool.{true};
+ghost use Prim.Native.Nat.{_+_, _*_, _^_, _<_, _≤_};
+ghost use lib.Dec.{ltb};
+ghost use lib.ListN.{length, replicate};
+ghost use Rattle.numbers.specs.Listed.{padded};
+ghost use Rattle.plan.specs.Plan.{Valid, sobol};
+ghost use Rattle.plan.specs.Answer.{axesOf, planAnswered, Accepted};
+ghost use Rattle.points.specs.Arrays.{directionsIn, Arrays, pointAt};
+ghost use Rattle.state.specs.State.{pick, planIn, nextPoint, made, blank, genuine};
+
+// A sampler: its plan, its run, and how many of the run's points are taken. `directions` has 32 words for each Sobol axis; `numerators` is
+// the next point, and 0 where none is left. Entries that are not used are 0.
+pub struct Sampler {
+    pub family: u64,
+    pub axes: usize,
+    pub bases: [u64; 6],
+    pub polynomials: [u64; 6],
+    pub directions: [u64; 192],
+    pub start: u64,
+    pub count: u64,
+    pub taken: u64,
+    pub numerators: [u64; 6],
+}
+
+// The blank state, all zero: what a refused reading hands back.
+pub fn blank_state() -> Sampler
+    ensures { λ r. ⌜ r ≡ blank ⌝ }
+{
+    Sampler {
+        family: 0,
+        axes: 0,
+        bases: [0; 6],
+        polynomials: [0; 6],
+        directions: [0; 192],
+        start: 0,
+        count: 0,
+        taken: 0,
+        numerators: [0; 6],
+    }
+}
+
+// ---- a state of a plan and a run
+
+// The direction numbers of the first `axes` axes, 32 words for each.
+fn direction_table(axes: usize, polynomials: &[u64], ms: &[u64]) -> [u64; 192]
+    requires { ⌜ (axes ≤ 6) × (axes ≤ length (now polynomials)) × (72 ≤ length (now ms)) × Valid (sobol (axesOf (now polynomials) (now ms) axes)) ⌝ }
+    ensures { λ r. ⌜ r ≡ padded 192 (directionsIn (axesOf (now (polynomials .entry)) (now (ms .entry)) axes)) ⌝ }
+{
+    let mut table = [0u64; 192];
+    let mut i = 0;
+    while i < axes {
+        let p = polynomials[i];
+        let from = 12 * i;
+        let to = from + 12;
+        let v = sobol::direction_numbers(sobol::degree(p), p, &ms[from..to]);
+        bits::store(&mut table, 32 * i, &v);
+        i += 1;
+    }
+    table
+}
+
+// The point of index start + taken, and zeros where no point is left.
+pub fn next_point(
+    family: u64,
+    axes: usize,
+    bases: &[u64],
+    directions: &[u64],
+    start: u64,
+    count: u64,
+    taken: u64,
+) -> [u64; 6]
+    requires { ⌜ Arrays family axes (now bases) (now directions) × (start + count ≤ 2 ^ 32) ⌝ }
+    ensures { λ r. ⌜ r ≡ pick (ltb taken count) (pointAt family axes (now (bases .entry)) (now (directions .entry)) (start + taken)) (replicate 6 0) ⌝ }
+{
+    if taken < count {
+        return points::point(family, axes, bases, directions, start + taken);
+    }
+    [0; 6]
+}
+
+// The state with a plan that the reader accepted, this run, and so many of its points taken.
+pub fn make(a: PlanRead, start: u64, count: u64, taken: u64) -> Sampler
+    requires { ⌜ Accepted a × (start + count ≤ 2 ^ 32) ⌝ }
+    ensures { λ r. ⌜ r ≡ made (planAnswered a) start count taken ⌝ }
+{
+    let family = a.family;
+    let axes = a.axes;
+    let bases = a.bases;
+    let polynomials = a.polynomials;
+    let ms = a.ms;
+    let directions = if family == 2 {
+        direction_table(axes, &polynomials, &ms)
+    } else {
+        [0; 192]
+    };
+    let numerators = next_point(family, axes, &bases, &directions, start, count, taken);
+    Sampler {
+        family,
+        axes,
+        bases,
+        polynomials,
+        directions,
+        start,
+        count,
+        taken,
+        numerators,
+    }
+}
+
+// ---- from one genuine state to the next
+
+// The state with another run, so many of whose points are taken.
+pub fn with_run(s: Sampler, start: u64, count: u64, taken: u64) -> Sampler
+    requires { ⌜ (genuine s ≡ true) × (start + count ≤ 2 ^ 32) ⌝ }
+    ensures { λ r. ⌜ r ≡ made (planIn s) start count taken ⌝ }
+{
+    let family = s.family;
+    let axes = s.axes;
+    let bases = s.bases;
+    let polynomials = s.polynomials;
+    let directions = s.directions;
+    let numerators = next_point(family, axes, &bases, &directions, start, count, taken);
+    Sampler {
+        family,
+        axes,
+        bases,
+        polynomials,
+        directions,
+        start,
+        count,
+        taken,
+        numerators,
+    }
+}
+
+// The point after the state's next one, by a step, and zeros where none is left.
+fn stepped_point(s: Sampler) -> [u64; 6]
+    requires { ⌜ (genuine s ≡ true) × (s .taken < s .count) ⌝ }
+    ensures { λ r. ⌜ r ≡ nextPoint (planIn s) (s .start) (s .count) (s .taken + 1) ⌝ }
+{
+    if s.count <= s.taken + 1 {
+        return [0; 6];
+    }
+    let bases = s.bases;
+    let directions = s.directions;
+    let x = s.numerators;
+    points::advance(s.family, s.axes, &bases, &directions, s.start + s.taken, x)
+}
+
+// The state with one point more taken.
+pub fn advanced(s: Sampler) -> Sampler
+    requires { ⌜ (genuine s ≡ true) × (s .taken < s .count) ⌝ }
+    ensures { λ r. ⌜ r ≡ made (planIn s) (s .start) (s .count) (s .taken + 1) ⌝ }
+{
+    let numerators = stepped_point(s);
+    let mut t = s;
+    t.taken = s.taken + 1;
+    t.numerators = numerators;
+    t
+}
