@@ -1,0 +1,73 @@
+// Runs the edges and the traps of 01-scope.md through the calls, one line each: what was asked, and the number that came.
+use libc::STDOUT_FILENO;
+use state::Sampler;
+
+// Writes a line: a label and a number.
+fn report(label: &[u8], n: u64) {
+    io::write_all(STDOUT_FILENO, label);
+    io::write_all(STDOUT_FILENO, b": ");
+    io::print_decimal(STDOUT_FILENO, n);
+    io::write_all(STDOUT_FILENO, b"\n");
+}
+
+// What reading these bytes answers.
+fn reading(label: &[u8], bytes: &[u8]) {
+    let r = sampler::read(bytes);
+    report(label, r.code);
+}
+
+// What opening this run answers.
+fn opening(label: &[u8], s: Sampler, start: u64, count: u64) {
+    let r = sampler::open(s, start, count);
+    report(label, r.code);
+}
+
+// At the edge: where a run may start and end.
+fn edges(s: Sampler) {
+    opening(b"open start 4294967295 count 1", s, 4294967295, 1);
+    opening(b"open start 4294967295 count 2", s, 4294967295, 2);
+    opening(b"open start 4294967296 count 0", s, 4294967296, 0);
+    opening(b"open start 4294967296 count 1", s, 4294967296, 1);
+    opening(
+        b"open start 18446744073709551615 count 2",
+        s,
+        18446744073709551615,
+        2,
+    );
+}
+
+// The run of the last index alone: one point, and then none.
+fn last_index(s: Sampler) {
+    let mut point = [0u64; 2];
+    let a = sampler::open(s, 4294967295, 1);
+    let b = sampler::step(a.state, &mut point);
+    report(b"step to index 4294967295", b.code);
+    let c = sampler::step(b.state, &mut point);
+    report(b"step after it", c.code);
+    let j = sampler::jump(s, 4294967296, &mut point);
+    report(b"jump to index 4294967296", j.code);
+}
+
+// The traps of reading.
+fn traps() {
+    reading(b"read bases 4 9", &[16, 24, 64]);
+    reading(b"read bases 6 9", &[16, 40, 64]);
+    reading(b"read x^4 + x^3 + x^2 + x + 1", &[138, 112]);
+}
+
+// Index 2 of x^3 + x + 1 with 1, 3, 7 is 1/4 of 2^32, and not the 3/4 that the index's own bits would give.
+fn second_index() {
+    let r = sampler::read(&[137, 191, 128]);
+    let mut point = [0u64; 1];
+    let j = sampler::jump(r.state, 2, &mut point);
+    report(b"jump to index 2 of x^3 + x + 1 with 1 3 7", j.code);
+    report(b"its numerator", point[0]);
+}
+
+fn main() {
+    let r = sampler::read(&[16, 8, 16]);
+    edges(r.state);
+    last_index(r.state);
+    traps();
+    second_index();
+}
