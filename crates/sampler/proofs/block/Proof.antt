@@ -64,7 +64,7 @@ fill-requires : tie.Need-fill-requires
 fill-requires c κs =
     let s = c .before .before .before .before .before .before .before .before .before .before .before .before in
     let f = block-fits _ _ _ _ (c .before .before .before .before .block-size .ensures) in
-    (known-arrays _ (known s), omega (arith, f .0, known-run _ (known s)), f .1, known-next _ (known s) (omega arith))
+    (known-arrays _ (known s), omega (arith, f .0, known-run _ (known s)), omega (arith, f .1), known-next _ (known s) (omega arith))
 
 add-with-run : tie.Need-add-with-run
 add-with-run c = omega (arith, block-fits _ _ _ _ (c .before .before .before .before .before .before .before .before .block-size .ensures) .0, known-run _ (known (c .before .before .before .before .before .before .before .before .before .before .before .before .before .before .before .before)))

@@ -1,0 +1,4 @@
+pub mod PutLaws
+pub mod DecimalLaws
+pub mod ArrayLaws
+pub mod WalkLaws

@@ -1,0 +1,51 @@
+-- The reader's answer decides the text: a number other than 0 is the refusal, and 0 means that the plan it holds was accepted.
+-- Assumes nothing.
+use mathlib.Core.Path.{_≡_, refl, sym, ap, _∙_}
+use mathlib.Core.List.{List, _++_}
+use Prim.Native.Nat.{ℕ, _≤_}
+use native.Mathlib.Omega.{arith}
+use lib.ListN.{length, take, drop, length-append}
+use lib.Seq.{length-take-le}
+use Rattle.bits.specs.Stream.{AllBelow, overwrite}
+use Rattle.plan.specs.Plan.{Plan, halton, sobol}
+use Rattle.plan.specs.Reading.{Reading, refused, accepted, readPlan}
+use Rattle.plan.specs.Answer.{answerOf, planAnswered, Accepted}
+use Rattle.plan.specs.declared.PlanRead.{PlanRead}
+use Rattle.plan.proofs.RefusalLaws.{refused-range}
+use Rattle.writer.proofs.RoundTrip.{read-accepted}
+use Rattle.walk_text.specs.Text.{textOf, walkText}
+use Rattle.walk_text.specs.Parts.{Put}
+
+accepted-code : (p : Plan) → answerOf (accepted p) .code ≡ 0
+unfolding answerOf
+accepted-code (halton family bases) = refl
+accepted-code (sobol axes) = refl
+
+module _ (bytes : List ℕ) (a : PlanRead) (e : a ≡ answerOf (readPlan bytes)) where
+  pub read-refused : (a .code ≡ 0 → ⊥) → readPlan bytes ≡ refused (a .code)
+  unfolding answerOf
+  read-refused f = go (readPlan bytes) refl
+    where
+      go : (r : Reading) → readPlan bytes ≡ r → readPlan bytes ≡ refused (a .code)
+      go (refused n) g = g ∙ ap refused (sym (ap (λ (x : PlanRead). x .code) (e ∙ ap answerOf g)))
+      go (accepted p) g = absurd (f (ap (λ (x : PlanRead). x .code) (e ∙ ap answerOf g) ∙ accepted-code p))
+
+  pub code-low : (a .code ≡ 0 → ⊥) → a .code ≤ 10
+  code-low f = refused-range bytes (a .code) (read-refused f) .1
+
+  module _ (below : AllBelow 256 bytes) (z : a .code ≡ 0) where
+    pub read-plan-is : readPlan bytes ≡ accepted (planAnswered a)
+    read-plan-is = read-accepted bytes below a e z .0
+
+    pub answer-accepted : Accepted a
+    answer-accepted = record { valid = read-accepted bytes below a e z .1; is = e ∙ ap answerOf read-plan-is }
+
+-- the text from the front of the buffer on is all of the answer
+pub whole : {old new : List ℕ} {n : ℕ} (input : List ℕ) (r : Reading) → readPlan (take 72 input) ≡ r → Put old new 0 (textOf r) n
+    → ((n ≡ length (walkText input)) × (new ≡ walkText input ++ drop n old)) × ((n ≤ length new) × (n ≡ length (take n new)))
+unfolding walkText overwrite
+whole {old} {new} {n} input r e p =
+    let size : n ≡ length (walkText input) = rw e (omega arith) in
+    let is : new ≡ walkText input ++ drop n old = p .bytes ∙ rw (e, p .after) refl in
+    let low : n ≤ length new = omega (arith, ap length is, length-append (walkText input) (drop n old)) in
+    ((size, is), (low, sym (length-take-le n new low)))
