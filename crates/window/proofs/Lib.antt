@@ -1,2 +1,3 @@
 -- Laws of windows.
 pub mod Demand3
+pub mod WindowLaws
