@@ -1,0 +1,2 @@
+-- The reference table's theorem.
+pub mod Rows

@@ -1,0 +1,1 @@
+// The reference points of the scope: a table, and one theorem over its rows. Laws alone, no code.
