@@ -117,23 +117,15 @@ pub fn with_run(s: Sampler, start: u64, count: u64, taken: u64) -> Sampler
     requires { ⌜ (genuine s ≡ true) × (start + count ≤ 2 ^ 32) ⌝ }
     ensures { λ r. ⌜ r ≡ made (planIn s) start count taken ⌝ }
 {
-    let family = s.family;
-    let axes = s.axes;
     let bases = s.bases;
-    let polynomials = s.polynomials;
     let directions = s.directions;
-    let numerators = next_point(family, axes, &bases, &directions, start, count, taken);
-    Sampler {
-        family,
-        axes,
-        bases,
-        polynomials,
-        directions,
-        start,
-        count,
-        taken,
-        numerators,
-    }
+    let numerators = next_point(s.family, s.axes, &bases, &directions, start, count, taken);
+    let mut t = s;
+    t.start = start;
+    t.count = count;
+    t.taken = taken;
+    t.numerators = numerators;
+    t
 }
 
 // The point after the state's next one, by a step, and zeros where none is left.

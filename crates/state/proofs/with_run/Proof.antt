@@ -14,12 +14,12 @@ slice-aggregate-next-point-2 c = search needs
 
 next-point-requires : tie.Need-next-point-requires
 next-point-requires c κs =
-    let k = c .before .before .before .before .before in
+    let k = c .before .before .before .before in
     (genuine-arrays (genuine-is (k .args .s) (k .pre .0)), k .pre .1)
 
 returns : tie.Need-returns
 returns c =
-    let k = c .before .before .before .before .before .before in
+    let k = c .before .before .before .before .before in
     let a = k .args in
     let g = genuine-is (a .s) (k .pre .0) in
     let h = genuine-holds g in
