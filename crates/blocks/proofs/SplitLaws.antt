@@ -1,13 +1,15 @@
 -- A numerator splits at any digit: that of q × b^e + r, with r below b^e, is that of q × b^e and that of r, over any σ that keeps 0. So the
 -- first b^e points of an axis and one number give every later run of b^e points. Assumes nothing.
 use mathlib.Core.Path.{_≡_, refl, sym, ap, _∙_}
-use Prim.Native.Nat.{ℕ, zero, suc, _+_, _*_, _/_, _%_, _^_, _<_, _≤_}
-use native.Mathlib.Nat.{add-zero, zero-add, zero-mul, mul-one, mul-assoc, add-mul, pow-zero, pow-suc, mod-lt, div-add-mod', div-lt-iff-lt-mul, mod-eq-of-lt, div-eq-of-lt, mul-le-mul-right, le-antisymm, le-of-eq, le-of-mul-le-mul-right}
+use Prim.Native.Nat.{ℕ, zero, suc, _+_, _-_, _*_, _/_, _%_, _^_, _<_, _≤_}
+use native.Mathlib.Nat.{add-zero, zero-add, zero-mul, mul-one, mul-assoc, add-mul, pow-zero, pow-suc, mod-lt, div-add-mod', div-lt-iff-lt-mul, mod-eq-of-lt, div-eq-of-lt, mul-le-mul-right, le-antisymm, le-of-eq, le-of-mul-le-mul-right, mul-div-cancel}
 use native.Mathlib.Numerals.{suc-eq-add-one}
 use native.Mathlib.Omega.{arith}
 use lib.Arith.{digits-div, digits-mod}
+use lib.Pow.{pow-add}
 use Rattle.numbers.specs.Digits.{numeratorTo}
 use Rattle.numbers.specs.Depth.{depth, denominator}
+use Rattle.numbers.proofs.DigitLaws.{pow-pos, pow-one-more}
 use Rattle.numbers.proofs.NumeratorLaws.{numerator-none, numerator-first, numerator-zero}
 use Rattle.halton.specs.Axis.{numerator}
 
@@ -71,3 +73,14 @@ module _ (σ : ℕ → ℕ) (b : ℕ) (z : σ 0 ≡ 0) (big : 2 ≤ b) where
   pub numerator-digit : (e d w : ℕ) → d < b → w * b * b ^ e ≡ denominator b → numerator σ b (d * b ^ e) ≡ σ d * w
   unfolding numerator denominator
   numerator-digit e = digit-to e (depth b)
+
+-- the weight of the next digit
+pub weight-next : (b : ℕ) → 2 ≤ b → (e w : ℕ) → w * b ^ e ≡ denominator b → e < depth b → w / b * b ≡ w
+unfolding denominator
+weight-next b big e w h l =
+    ap (λ (x : ℕ). x / b * b) is ∙ ap (λ (x : ℕ). x * b) (mul-div-cancel (b ^ (depth b - e - 1)) (omega arith)) ∙ sym is
+  where
+    is : w ≡ b ^ (depth b - e - 1) * b
+    is =
+        times-cancel w (b ^ (depth b - e - 1) * b) (b ^ e) (pow-pos b e (omega arith))
+        (h ∙ ap (λ (x : ℕ). b ^ x) {x = depth b} {y = depth b - e - 1 + 1 + e} (omega arith) ∙ pow-add b (depth b - e - 1 + 1) e ∙ ap (λ (x : ℕ). x * b ^ e) (pow-one-more b (depth b - e - 1)))

@@ -5,5 +5,6 @@ pub mod InverseLaws
 pub mod DigitLaws
 pub mod NumeratorLaws
 pub mod DepthLaws
+pub mod ReciprocalLaws
 pub mod CountLaws
 pub mod ListedLaws

@@ -100,3 +100,9 @@ module _ (σ : ℕ → ℕ) (b : ℕ) where
   -- it depends on the index's class modulo b ^ k alone
   pub numerator-class : 0 < b → (k n : ℕ) → numeratorTo σ b k n ≡ numeratorTo σ b k (n % b ^ k)
   numerator-class pos k n = ap (numeratorTo σ b k) (sym (div-add-mod' n (b ^ k))) ∙ numerator-low pos k (n / b ^ k) (n % b ^ k)
+
+-- two maps that agree on the digits
+pub numerator-ext : (σ τ : ℕ → ℕ) (b k n : ℕ) → 0 < b → ((d : ℕ) → d < b → σ d ≡ τ d) → numeratorTo σ b k n ≡ numeratorTo τ b k n
+unfolding numeratorTo term digit
+numerator-ext σ τ b k n l h =
+    sum-ext (term σ b k n) (term τ b k n) k (λ j q. ap (λ (x : ℕ). x * b ^ (k - 1 - j)) (h (n / b ^ j % b) (mod-lt (n / b ^ j) l)))

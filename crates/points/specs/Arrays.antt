@@ -52,6 +52,10 @@ numeratorBy false family bases vs n i = numerator (imageOf family (getD bases i 
 unfoldable pub numeratorAt : ℕ → List ℕ → List ℕ → ℕ → ℕ → ℕ
 numeratorAt family bases vs n i = numeratorBy (eqb family 2) family bases vs n i
 
+-- the numerator t places after index n on axis i
+unfoldable pub numeratorFrom : ℕ → List ℕ → List ℕ → ℕ → ℕ → ℕ → ℕ
+numeratorFrom family bases vs n i t = numeratorAt family bases vs (n + t) i
+
 -- the point of index n, 0 on the axes that the plan lacks
 unfoldable pub pointAt : ℕ → ℕ → List ℕ → List ℕ → ℕ → List ℕ
 pointAt family axes bases vs n = padded 6 (listed (numeratorAt family bases vs n) axes)

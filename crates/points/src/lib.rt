@@ -3,7 +3,8 @@ ghost use mathlib.Core.Path.{_≡_};
 ghost use mathlib.Core.List.{_++_};
 ghost use Prim.Native.Nat.{_+_, _*_, _^_, _<_, _≤_};
 ghost use lib.ListN.{length, take, drop};
-ghost use Rattle.points.specs.Arrays.{numeratorAt, pointAt, denominatorAt, pointsAt, Arrays};
+ghost use Rattle.blocks.specs.Filling.{Column, Columns};
+ghost use Rattle.points.specs.Arrays.{numeratorAt, numeratorFrom, pointAt, denominatorAt, pointsAt, Arrays};
 
 // The numerator of index `n` on axis `i`, by a jump.
 pub fn numerator(
@@ -108,7 +109,55 @@ pub fn put_point(out: &mut [u64], at: usize, x: [u64; 6], axes: usize)
     }
 }
 
-// Writes the `k` points of the indexes from `n` on to the front of `out`, by steps from the first, which is `x`.
+// Writes column `j` of the rows `lo` to `hi`, which have `s` words each: the numerators of axis `i`, row 0 being index `n`.
+pub fn fill_column(
+    family: u64,
+    axes: usize,
+    bases: &[u64],
+    directions: &[u64],
+    i: usize,
+    n: u64,
+    lo: usize,
+    hi: usize,
+    s: usize,
+    j: usize,
+    out: &mut [u64],
+)
+    requires { ⌜ Arrays family axes (now bases) (now directions) × (i < axes) ⌝ }
+    requires { ⌜ (n + hi ≤ 2 ^ 32) × (lo ≤ hi) × (j < s) × (hi * s ≤ length (now out)) ⌝ }
+    ensures { λ r. ⌜ Column (numeratorFrom family (now (bases .entry)) (now (directions .entry)) n i) lo hi s j (now (out .entry)) (now (out .exit)) ⌝ }
+{
+    if family == 2 {
+        let first = 32 * i;
+        let last = first + 32;
+        blocks::sobol_column(&directions[first..last], n, lo, hi, s, j, out);
+        return;
+    }
+    blocks::halton_column(family, bases[i], n, lo, hi, s, j, out);
+}
+
+// Writes the rows `lo` to `hi`, axis after axis: each is a point, row 0 being that of index `n`.
+fn fill_rows(
+    family: u64,
+    axes: usize,
+    bases: &[u64],
+    directions: &[u64],
+    n: u64,
+    lo: usize,
+    hi: usize,
+    out: &mut [u64],
+)
+    requires { ⌜ Arrays family axes (now bases) (now directions) × (n + hi ≤ 2 ^ 32) × (lo ≤ hi) × (hi * axes ≤ length (now out)) ⌝ }
+    ensures { λ r. ⌜ Columns (numeratorFrom family (now (bases .entry)) (now (directions .entry)) n) lo hi axes axes (now (out .entry)) (now (out .exit)) ⌝ }
+{
+    let mut i = 0;
+    while i < axes {
+        fill_column(family, axes, bases, directions, i, n, lo, hi, axes, i, out);
+        i += 1;
+    }
+}
+
+// Writes the `k` points of the indexes from `n` on to the front of `out`, so many rows at a time that they stay near while the axes pass.
 pub fn fill(
     out: &mut [u64],
     family: u64,
@@ -116,22 +165,15 @@ pub fn fill(
     bases: &[u64],
     directions: &[u64],
     n: u64,
-    x: [u64; 6],
     k: usize,
 )
-    requires { ⌜ Arrays family axes (now bases) (now directions) × (n + k ≤ 2 ^ 32) × (k * axes ≤ length (now out)) × (x ≡ pointAt family axes (now bases) (now directions) n) ⌝ }
+    requires { ⌜ Arrays family axes (now bases) (now directions) × (1 ≤ axes) × (n + k ≤ 2 ^ 32) × (k * axes ≤ length (now out)) ⌝ }
     ensures { λ r. ⌜ now (out .exit) ≡ pointsAt family axes (now (bases .entry)) (now (directions .entry)) n k ++ drop (k * axes) (now (out .entry)) ⌝ }
 {
-    if k == 0 {
-        return;
-    }
-    put_point(out, 0, x, axes);
-    let mut y = x;
-    let mut i = 1;
+    let mut i = 0;
     while i < k {
-        let z = advance(family, axes, bases, directions, n + (i as u64) - 1, y);
-        put_point(out, i * axes, z, axes);
-        y = z;
-        i += 1;
+        let end = blocks::least(i + 2048, k);
+        fill_rows(family, axes, bases, directions, n, i, end, out);
+        i = end;
     }
 }

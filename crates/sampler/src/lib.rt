@@ -170,7 +170,6 @@ pub fn block(s: Sampler, out: &mut [u64]) -> Blocked
     }
     let bases = s.bases;
     let directions = s.directions;
-    let x = s.numerators;
     let k = block_size(s.count - s.taken, out.len(), axes);
     points::fill(
         out,
@@ -179,7 +178,6 @@ pub fn block(s: Sampler, out: &mut [u64]) -> Blocked
         &bases,
         &directions,
         s.start + s.taken,
-        x,
         k,
     );
     let t = state::with_run(s, s.start, s.count, s.taken + (k as u64));

@@ -1,86 +1,61 @@
--- `points::fill` meets its contract. The loop's invariant: the first i points are written, the rest of the buffer is as it was, and the local
--- point is the last one written. Assumes nothing.
-use mathlib.Core.Path.{_≡_, ap, _∙_}
-use Prim.Native.Nat.{_-_, _≤_}
+-- `points::fill` meets its contract: the first i rows are written, and rows of numerators are the points. Assumes nothing.
+use mathlib.Core.Path.{ap, _∙_}
+use mathlib.Core.List.{List, _++_}
+use native.Mathlib.Nat.{mul-le-mul-right}
 use native.Mathlib.Omega.{arith}
-use borrow.Author.Needs.{needs}
-use Rattle.points.proofs.FillLaws.{filled, filled-none, filled-first, Filling, filling-one, filling-next, filling-end, more-points}
+use Prim.Native.Nat.{ℕ, _-_, _*_, _≤_, _<_}
+use lib.ListN.{drop}
+use Rattle.blocks.specs.Filling.{Columns}
+use Rattle.blocks.proofs.FillLaws.{columns-empty, columns-join, columns-rows, columns-list}
+use Rattle.points.specs.Arrays.{numeratorFrom}
+use Rattle.points.proofs.FillLaws.{points-at-rows}
 use Rattle.points.proofs.fill.Statement.{statement}
 use Rattle.points.proofs.fill.Tie as tie
 
 abbrev Inv-loop : tie.InvT-loop
-Inv-loop out₀ family axes bases directions n k y₀ i₀ out y i = (1 ≤ i) × (i ≤ k) × Filling family axes bases directions out₀ n out y i
+Inv-loop out₀ family axes bases directions n k i₀ out i = (i ≤ k) × Columns (numeratorFrom family bases directions n) 0 i axes axes out₀ out
 
 abbrev μ-loop : tie.MeasureT-loop
-μ-loop out₀ family axes bases directions n k y₀ i₀ out y i = k - i
+μ-loop out₀ family axes bases directions n k i₀ out i = k - i
 
--- the first point
-first : (c : tie.After-put-point Inv-loop μ-loop)
-    → let a = c .before .before .before .before .before .before .args in
-    c .put-point .last .0 ≡ filled (a .family) (a .axes) (a .bases .now) (a .directions .now) (a .out .now) (a .n) 1
-first c =
-    let s = c .before .before .before .before .before .before in
-    let a = s .args in
-    c .put-point .ensures ∙ filled-first (a .family) (a .axes) (a .bases .now) (a .directions .now) (a .out .now) (a .x) (a .n) (s .pre .3)
-
-returns : tie.Need-returns Inv-loop μ-loop
-returns c =
-    let a = c .before .before .before .before .args in
-    let e : 0 ≡ a .k = omega arith in
-    filled-none (a .family) (a .axes) (a .bases .now) (a .directions .now) (a .out .now) (a .n)
-    ∙ ap (filled (a .family) (a .axes) (a .bases .now) (a .directions .now) (a .out .now) (a .n)) e
-
-put-point-requires : tie.Need-put-point-requires Inv-loop μ-loop
-put-point-requires c κs =
-    let s = c .before .before .before .before .before in
-    omega (arith, s .pre .0 .few, more-points 0 (s .args .k) (s .args .axes) (omega arith))
+-- a chunk is not empty
+further : (c : tie.After-least Inv-loop μ-loop) → c .before .before .loop .i < c .least .result
+further c = c .least .ensures .2 _ (omega arith) (omega arith)
 
 loop-holds : tie.Need-loop-holds Inv-loop μ-loop
-loop-holds c =
-    let s = c .before .before .before .before .before .before .before .before in
-    (omega arith, omega arith, filling-one (s .args .out .now) (s .pre .3) (first (c .before .before)))
+loop-holds c = (omega arith, columns-empty _ _ _)
 
-add-advance : tie.Need-add-advance Inv-loop μ-loop
-add-advance c = omega arith
+add-least : tie.Need-add-least Inv-loop μ-loop
+add-least c = omega arith
 
-sub-advance : tie.Need-sub-advance Inv-loop μ-loop
-sub-advance c = omega arith
+least-requires : tie.Need-least-requires Inv-loop μ-loop
+least-requires c κs = omega arith
 
-advance-requires : tie.Need-advance-requires Inv-loop μ-loop
-advance-requires c κs =
-    (c .before .before .before .before .before .before .before .before .before .before .pre .0, omega arith, c .before .loop .inv .2 .last)
-
-mul-put-point : tie.Need-mul-put-point Inv-loop μ-loop
-mul-put-point c =
-    let a = c .before .before .before .before .before .before .before .before .before .before .before .before .args in
-    omega (arith, more-points (c .before .before .before .loop .i) (a .k) (a .axes) (omega arith))
-
-put-point-requires-2 : tie.Need-put-point-requires-2 Inv-loop μ-loop
-put-point-requires-2 c κs =
-    let s = c .before .before .before .before .before .before .before .before .before .before .before .before in
-    omega (arith, s .pre .0 .few, more-points (c .before .before .before .loop .i) (s .args .k) (s .args .axes) (omega arith))
-
-add-i : tie.Need-add-i Inv-loop μ-loop
-add-i c = omega arith
+fill-rows-requires : tie.Need-fill-rows-requires Inv-loop μ-loop
+fill-rows-requires c κs =
+    let s = c .before .before .before .before .before .before .before in
+    let a = s .args in
+    let l = c .before .before .before .loop in
+    let e = c .before .least .ensures in
+    (s .pre .0, omega (arith, e .1), omega (arith, further (c .before)), omega (arith, l .inv .1 .same-length, mul-le-mul-right {m = c .before .least .result} {n = a .k} (a .axes) (e .1)))
 
 loop-less : tie.Need-loop-less Inv-loop μ-loop
-loop-less c = omega arith
+loop-less c = omega (arith, further (c .before .before .before .before), c .before .before .before .before .least .ensures .1)
 
 loop-again : tie.Need-loop-again Inv-loop μ-loop
 loop-again c =
-    let l = c .before .before .before .before .before .before .loop in (
-      omega arith,
-      omega arith,
-      filling-next (l .inv .2) (l .inv .0) (search needs) (c .before .before .before .before .advance .ensures) (c .before .before .put-point2 .ensures),
-    )
+    let l = c .before .before .before .before .before .before .loop in
+    (c .before .before .before .before .least .ensures .1, columns-join (l .inv .1) (c .before .before .fill-rows .ensures) (omega arith) (omega (arith, further (c .before .before .before .before))))
 
 same-length : tie.Need-same-length Inv-loop μ-loop
-same-length c = search needs
+same-length c = c .before .loop .inv .1 .same-length
 
-returns-2 : tie.Need-returns-2 Inv-loop μ-loop
-returns-2 c =
-    let a = c .before .before .before .before .before .before .before .before .before .before .args in
-    filling-end (c .before .loop .inv .2) (a .out .now) (first (c .before .before .before .before)) (omega arith) (omega arith)
+returns : tie.Need-returns Inv-loop μ-loop
+returns c =
+    let a = c .before .before .before .before .before .args in
+    let l = c .before .loop in
+    columns-list (numeratorFrom (a .family) (a .bases .now) (a .directions .now) (a .n)) (a .axes) (a .k) (a .out .now) (l .out) (columns-rows (l .inv .1) (omega arith)) (omega arith) (omega arith)
+    ∙ ap (λ (x : List ℕ). x ++ drop (a .k * a .axes) (a .out .now)) (points-at-rows (a .family) (a .axes) (a .bases .now) (a .directions .now) (a .n) (a .k))
 
 pub fill-spec : {M : Type 1} → statement M
 fill-spec =
@@ -88,16 +63,11 @@ fill-spec =
     (tie.spec
     Inv-loop
     μ-loop
-    returns
-    put-point-requires
     loop-holds
-    add-advance
-    sub-advance
-    advance-requires
-    mul-put-point
-    put-point-requires-2
-    add-i
+    add-least
+    least-requires
+    fill-rows-requires
     loop-less
     loop-again
     same-length
-    returns-2)
+    returns)

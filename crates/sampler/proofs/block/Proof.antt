@@ -1,4 +1,4 @@
--- One case law a return; the points are filled by steps from the state's next one, and the state is made anew. Assumes nothing.
+-- One case law a return; the points are filled from the run's next index on, and the state is made anew. Assumes nothing.
 use mathlib.Core.Path.{_≡_, sym, ap, _∙_}
 use mathlib.Core.Bool.{true, false}
 use mathlib.Core.List.{_++_}
@@ -11,7 +11,7 @@ use Rattle.state.specs.State.{made, planIn, genuine}
 use Rattle.state.specs.declared.Sampler.{Sampler}
 use Rattle.sampler.specs.declared.Blocked.{Blocked}
 use Rattle.sampler.proofs.CaseLaws.{foreign-of, known-of, block-foreign, block-spent, block-no-room, block-done}
-use Rattle.sampler.proofs.PointLaws.{axes-few, known-arrays, known-run, known-next, points-put, block-fits}
+use Rattle.sampler.proofs.PointLaws.{axes-few, known-arrays, known-run, points-put, block-fits}
 use Rattle.sampler.proofs.block.Statement.{statement}
 use Rattle.sampler.proofs.block.Tie as tie
 
@@ -49,7 +49,7 @@ sub-block-size : tie.Need-sub-block-size
 sub-block-size c = omega arith
 
 block-size-requires : tie.Need-block-size-requires
-block-size-requires c κs = axes-few _ (known (c .before .before .before .before .before .before .before)) .0
+block-size-requires c κs = axes-few _ (known (c .before .before .before .before .before .before)) .0
 
 slice-aggregate-fill : tie.Need-slice-aggregate-fill
 slice-aggregate-fill c = search needs
@@ -58,19 +58,19 @@ slice-aggregate-fill-2 : tie.Need-slice-aggregate-fill-2
 slice-aggregate-fill-2 c = search needs
 
 add-fill : tie.Need-add-fill
-add-fill c = omega (arith, known-run _ (known (c .before .before .before .before .before .before .before .before .before .before .before .before)))
+add-fill c = omega (arith, known-run _ (known (c .before .before .before .before .before .before .before .before .before .before .before)))
 
 fill-requires : tie.Need-fill-requires
 fill-requires c κs =
-    let s = c .before .before .before .before .before .before .before .before .before .before .before .before in
+    let s = c .before .before .before .before .before .before .before .before .before .before .before in
     let f = block-fits _ _ _ _ (c .before .before .before .before .block-size .ensures) in
-    (known-arrays _ (known s), omega (arith, f .0, known-run _ (known s)), omega (arith, f .1), known-next _ (known s) (omega arith))
+    (known-arrays _ (known s), axes-few _ (known s) .0, omega (arith, f .0, known-run _ (known s)), omega (arith, f .1))
 
 add-with-run : tie.Need-add-with-run
-add-with-run c = omega (arith, block-fits _ _ _ _ (c .before .before .before .before .before .before .before .before .block-size .ensures) .0, known-run _ (known (c .before .before .before .before .before .before .before .before .before .before .before .before .before .before .before .before)))
+add-with-run c = omega (arith, block-fits _ _ _ _ (c .before .before .before .before .before .before .before .before .block-size .ensures) .0, known-run _ (known (c .before .before .before .before .before .before .before .before .before .before .before .before .before .before .before)))
 
 with-run-requires : tie.Need-with-run-requires
-with-run-requires c κs = (known (c .before .before .before .before .before .before .before .before .before .before .before .before .before .before .before .before), known-run _ (known (c .before .before .before .before .before .before .before .before .before .before .before .before .before .before .before .before)) .0)
+with-run-requires c κs = (known (c .before .before .before .before .before .before .before .before .before .before .before .before .before .before .before), known-run _ (known (c .before .before .before .before .before .before .before .before .before .before .before .before .before .before .before)) .0)
 
 same-length : tie.Need-same-length
 same-length c = search needs
@@ -81,10 +81,10 @@ answer k k′ t t′ e f = λ j. record { code = 0; points = e j; state = f j }
 
 returns-4 : tie.Need-returns-4
 returns-4 c =
-    let s = c .before .before .before .before .before .before .before .before .before .before .before .before .before .before .before .before .before in
+    let s = c .before .before .before .before .before .before .before .before .before .before .before .before .before .before .before .before in
     let a = s .before .before .before .args in
     let k = c .before .before .before .before .before .before .before .before .before .block-size .ensures in
-    let w = block-done (a .s) (a .out .now) (known s) (omega (arith, c .before .before .before .before .before .before .before .before .before .before .before .before .before .before .before .if2 .left)) (omega (arith, c .before .before .before .before .before .before .before .before .before .before .before .before .before .before .if3 .left)) in (
+    let w = block-done (a .s) (a .out .now) (known s) (omega (arith, c .before .before .before .before .before .before .before .before .before .before .before .before .before .before .if2 .left)) (omega (arith, c .before .before .before .before .before .before .before .before .before .before .before .before .before .if3 .left)) in (
       answer _ _ _ _ k (c .with-run .ensures ∙ ap (λ (j : ℕ). made (planIn (a .s)) (a .s .start) (a .s .count) (a .s .taken + j)) k) ∙ sym (w .0),
       points-put (a .s) (known s) (a .out .now) _ _ _ (c .before .before .before .before .fill .ensures)
           ∙ ap (λ (j : ℕ). pointsFrom (planIn (a .s)) (a .s .start + a .s .taken) j ++ drop (j * a .s .axes) (a .out .now)) k ∙ sym (w .1),
