@@ -64,10 +64,82 @@ fn second_index() {
     report(b"its numerator", point[0]);
 }
 
+// What counting a window over a run answers: the refusal's number or 0, S, and the bound.
+fn counting(label: &[u8], s: Sampler, start: u64, count: u64, w: &[u64]) {
+    let a = sampler::open(s, start, count);
+    let r = window_count::count(a.state, w);
+    report(label, r.code);
+    report(b"  inside", r.inside);
+    report(b"  bound", r.bound);
+}
+
+// Windows over the bases 2 and 3: whole and empty cuts, a point on its cut, and K from N and not from the last index.
+fn windows(s: Sampler) {
+    counting(
+        b"count 1/2 1/3 over start 0 count 6",
+        s,
+        0,
+        6,
+        &[1, 2, 1, 3],
+    );
+    counting(
+        b"count 2/2 3/3 over start 5 count 1000",
+        s,
+        5,
+        1000,
+        &[2, 2, 3, 3],
+    );
+    counting(
+        b"count 2/2 0/3 over start 5 count 1000",
+        s,
+        5,
+        1000,
+        &[2, 2, 0, 3],
+    );
+    counting(
+        b"count 1/2 1/1 over start 1 count 1",
+        s,
+        1,
+        1,
+        &[1, 2, 1, 1],
+    );
+    counting(
+        b"count 8388609/16777216 1/1 over start 1 count 1",
+        s,
+        1,
+        1,
+        &[8388609, 16777216, 1, 1],
+    );
+    counting(
+        b"count 1/2 1/3 over start 4294967290 count 6",
+        s,
+        4294967290,
+        6,
+        &[1, 2, 1, 3],
+    );
+    counting(
+        b"count 1/2 1/3 over start 0 count 0",
+        s,
+        0,
+        0,
+        &[1, 2, 1, 3],
+    );
+}
+
+// Windows that are turned down.
+fn wrong_windows(s: Sampler) {
+    counting(b"count 3/2 1/3", s, 0, 6, &[3, 2, 1, 3]);
+    counting(b"count 0/0 1/3", s, 0, 6, &[0, 0, 1, 3]);
+    counting(b"count 1/16777217 1/3", s, 0, 6, &[1, 16777217, 1, 3]);
+    counting(b"count 1/2", s, 0, 6, &[1, 2]);
+}
+
 fn main() {
     let r = sampler::read(&[16, 8, 16]);
     edges(r.state);
     last_index(r.state);
     traps();
     second_index();
+    windows(r.state);
+    wrong_windows(r.state);
 }

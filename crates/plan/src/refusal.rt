@@ -26,5 +26,7 @@ pub const OUT_OF_RANGE: u64 = 11;
 pub const EXHAUSTED: u64 = 12;
 // room: buffer shorter than one point, the plan, or the count's 16 bytes
 pub const BUFFER_TOO_SMALL: u64 = 13;
+// window: u or q outside its range, or not one u and one q per axis
+pub const BAD_WINDOW: u64 = 14;
 // foreign: a state that no accepted reading, with any accepted openings, steps and blocks after it, leaves
 pub const INVALID_STATE: u64 = 15;

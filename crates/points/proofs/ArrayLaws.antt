@@ -3,18 +3,23 @@ use mathlib.Core.Path.{_≡_, refl, sym, ap, ap₂, _∙_}
 use mathlib.Core.Logic.{⊎-elim}
 use mathlib.Core.List.{List, [], _∷_, _++_, append-assoc}
 use Prim.Native.Nat.{ℕ, zero, suc, _+_, _-_, _*_, _^_, _<_, _≤_}
+use native.Mathlib.Nat.{min-le-left}
 use native.Mathlib.Omega.{arith}
 use borrow.Author.Tests.{eq-eqb, ne-eqb}
-use lib.ListN.{length, take, drop, getD, replicate, length-append, List·getD-append}
-use lib.Seq.{take-at, drop-at, drop-drop, getD-append-add}
+use lib.ListN.{length, take, drop, getD, replicate, length-append, length-take, List·getD-append, List·getD-eq-default}
+use lib.Seq.{take-at, drop-at, drop-drop, getD-append-add, getD-take, getD-drop}
 use Rattle.numbers.specs.Depth.{denominator}
 use Rattle.numbers.specs.Listed.{listed, padded}
-use Rattle.numbers.proofs.Cases.{lt-or-ge}
+use Rattle.numbers.proofs.Cases.{lt-or-ge, eq-or-ne}
+use Rattle.numbers.proofs.DepthLaws.{denominator-lt}
 use Rattle.numbers.proofs.ListedLaws.{padded-length, padded-at, zeros-at, listed-same}
 use Rattle.permutation.specs.Families.{imageOf}
+use Rattle.permutation.proofs.FamilyLaws.{image-permutes}
 use Rattle.halton.specs.Axis.{numerator}
+use Rattle.halton.proofs.AxisLaws.{numerator-below}
 use Rattle.sobol.specs.Stepping.{stepped}
 use Rattle.sobol.proofs.DirectionLaws.{directions-length}
+use Rattle.sobol.proofs.SteppingLaws.{stepped-lt}
 use Rattle.plan.specs.Plan.{Axis, noAxis, ValidAxis, Plan, halton, sobol, Valid}
 use Rattle.points.specs.Point.{axisCount, axisDirections, denominatorOf, numeratorOf, pointOf, pointsFrom}
 use Rattle.points.specs.Arrays.{familyOf, basesArray, directionsIn, directionsArray, directionsAt, numeratorBy, numeratorAt, pointAt, pointsAt, denominatorBy, denominatorAt, Arrays}
@@ -82,6 +87,11 @@ arrays-of (sobol axes) v =
 
 -- ---- points by arrays
 
+-- a part of small words has small words
+part-lt : (m : ℕ) (l : List ℕ) → ((j : ℕ) → getD l j 0 < 2 ^ 32) → (j : ℕ) → getD (take m l) j 0 < 2 ^ 32
+part-lt m l h j =
+    ⊎-elim (λ k. rw (getD-take m l j 0 k) (h j)) (λ k. omega (arith, List·getD-eq-default (take m l) 0 {n = j} (omega (arith, length-take m l, min-le-left m (length l))))) (lt-or-ge j m)
+
 pub base-range : {family axes : ℕ} {bases vs : List ℕ} → Arrays family axes bases vs → (i : ℕ) → i < axes → (family ≡ 2 → ⊥)
     → (2 ≤ getD bases i 0) × (getD bases i 0 ≤ 256)
 base-range a i h f = (a .base-low i h f, a .base-high i h f)
@@ -106,6 +116,24 @@ denominator-by-two family bases i e = rw (eq-eqb family 2 e)
 pub denominator-by-base : (family : ℕ) (bases : List ℕ) (i : ℕ) → (family ≡ 2 → ⊥) → denominator (getD bases i 0) ≡ denominatorAt family bases i
 unfolding denominatorAt denominatorBy
 denominator-by-base family bases i f = rw (ne-eqb family 2 f)
+
+module _ {family axes : ℕ} {bases vs : List ℕ} (a : Arrays family axes bases vs) (i : ℕ) (h : i < axes) where
+  pub denominator-at-lt : denominatorAt family bases i < 2 ^ 40
+  denominator-at-lt =
+      ⊎-elim
+      (λ e. omega (arith, denominator-by-two family bases i e))
+      (λ f. let r = base-range a i h f in omega (arith, denominator-by-base family bases i f, denominator-lt (getD bases i 0) (r .0) (r .1)))
+      (eq-or-ne family 2)
+
+  pub numerator-at-lt : (n : ℕ) → numeratorAt family bases vs n i < denominatorAt family bases i
+  numerator-at-lt n =
+      ⊎-elim
+      (λ e. rw (← numerator-by-part family bases vs n i e, ← denominator-by-two family bases i e) (stepped-lt 32 _ part-low n))
+      (λ f. rw (← numerator-by-base family bases vs n i f, ← denominator-by-base family bases i f) (numerator-below (image-permutes family (getD bases i 0) (a .base-low i h f)) (omega (arith, a .base-low i h f)) n))
+      (eq-or-ne family 2)
+    where
+      part-low : (j : ℕ) → getD (take (32 * i + 32 - 32 * i) (drop (32 * i) vs)) j 0 < 2 ^ 32
+      part-low j = part-lt (32 * i + 32 - 32 * i) (drop (32 * i) vs) (λ k. rw (getD-drop (32 * i) vs k 0) (a .directions-low (32 * i + k))) j
 
 -- ---- they are the plan's
 

@@ -9,6 +9,7 @@ use Rattle.sobol.specs.Directions.{mList}
 use Rattle.plan.specs.Plan.{Axis, Plan, halton, sobol}
 use Rattle.plan.specs.Reading.{Reading, refused, accepted, readPlan}
 use Rattle.points.specs.Point.{numeratorOf, denominatorOf, slotOf}
+use Rattle.window.specs.Counting.{insideCount, boundOf}
 
 pub data Question : Type 0 where
   -- numerator and denominator of an index on a plan's first axis
@@ -21,10 +22,16 @@ pub data Question : Type 0 where
   directionNumbers : Axis → ℕ → Question
   -- what reading these bytes comes to
   reading : List ℕ → Question
+  -- S and the bound of a window over the run of the plan with these bytes: the window, the start and N
+  window : List ℕ → List ℕ → ℕ → ℕ → Question
 
 pub data Answer : Type 0 where
   numbers : List ℕ → Answer
   read : Reading → Answer
+
+unfoldable pub windowOver : Reading → List ℕ → ℕ → ℕ → Answer
+windowOver (refused n) w start N = read (refused n)
+windowOver (accepted p) w start N = numbers (insideCount p w start N ∷ boundOf p N ∷ [])
 
 unfoldable pub answerTo : Question → Answer
 answerTo (fraction p n) = numbers (numeratorOf p n 0 ∷ denominatorOf p 0 ∷ [])
@@ -32,6 +39,7 @@ answerTo (second p n) = numbers (slotOf p 86400 n 0 ∷ [])
 answerTo (permutation b) = numbers (listed (faure b) b)
 answerTo (directionNumbers x n) = numbers (mList (length (x .ms)) (x .polynomial) (x .ms) n)
 answerTo (reading bytes) = read (readPlan bytes)
+answerTo (window bytes w start N) = windowOver (readPlan bytes) w start N
 
 pub record Row : Type 0 where
   pub question : Question
@@ -61,6 +69,8 @@ table =
     ∷ row (fraction (sobol (cubic ∷ [])) 4) (numbers (536870912 ∷ 4294967296 ∷ []))
     -- R7
     ∷ row (reading (0x10 ∷ 0x08 ∷ 0x10 ∷ [])) (read (accepted (halton 0 (2 ∷ 3 ∷ []))))
+    -- R8
+    ∷ row (window (0x10 ∷ 0x08 ∷ 0x10 ∷ []) (1 ∷ 2 ∷ 1 ∷ 3 ∷ []) 0 6) (numbers (1 ∷ 20 ∷ []))
     -- R9
     ∷ row (reading (0x10 ∷ 0x08 ∷ 0x18 ∷ [])) (read (refused 5))
     -- R10

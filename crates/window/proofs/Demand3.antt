@@ -19,7 +19,7 @@ use Rattle.points.specs.Point.{axisCount, numeratorOf, denominatorOf}
 use Rattle.window.specs.Counting.{uOf, qOf, insideAxes, isInside, stepInside, insideCount, uProduct, qProduct, boundOver, boundOf, Cuts}
 
 -- the axes of the run, with their cuts
-abbrev runAxes : ℕ → List ℕ → List ℕ → ℕ → ℕ → CutAxis
+abbrev pub runAxes : ℕ → List ℕ → List ℕ → ℕ → ℕ → CutAxis
 runAxes family bases w start = haltonAxes (λ i. imageOf family (getD bases i 0)) (λ i. getD bases i 0) (λ i. start) 1 (uOf w) (qOf w)
 
 module _ (family : ℕ) (bases w : List ℕ) (start : ℕ) where
@@ -39,7 +39,7 @@ module _ (family : ℕ) (bases w : List ℕ) (start : ℕ) where
   same-q zero = refl
   same-q (suc s) = rw (same-q s) refl
 
-  same-bound : (N s : ℕ) → bound N (runAxes family bases w start) s ≡ boundOver bases N s
+  pub same-bound : (N s : ℕ) → bound N (runAxes family bases w start) s ≡ boundOver bases N s
   unfolding haltonAxes bound boundOver
   same-bound N zero = refl
   same-bound N (suc s) = rw (same-bound N s) refl

@@ -2,7 +2,8 @@
 -- list of u and q for each axis in turn. Definitions only.
 use mathlib.Core.Bool.{Bool, true, _&&_}
 use mathlib.Core.List.{List}
-use Prim.Native.Nat.{ℕ, zero, suc, _+_, _*_, _≤_, _<_}
+use Prim.Native.Nat.{ℕ, zero, suc, _+_, _*_, _^_, _≤_, _<_}
+use lib.Dec.{ltb, leb, eqb}
 use lib.ListN.{length, getD}
 use Rattle.numbers.specs.Count.{count}
 use Rattle.numbers.specs.Cut.{belowCut}
@@ -57,3 +58,17 @@ boundOf (sobol axes) N = 0
 pub record Cuts (w : List ℕ) (s : ℕ) : Type 0 where
   pub q-pos : (i : ℕ) → i < s → 0 < qOf w i
   pub u-le : (i : ℕ) → i < s → uOf w i ≤ qOf w i
+
+-- ---- what the calls take
+
+-- q from 1 to 2^24, u from 0 to q
+unfoldable pub isCut : ℕ → ℕ → Bool
+isCut u q = ltb 0 q && (leb q (2 ^ 24) && leb u q)
+
+unfoldable pub areCuts : List ℕ → ℕ → Bool
+areCuts w zero = true
+areCuts w (suc s) = areCuts w s && isCut (uOf w s) (qOf w s)
+
+-- one u and one q for each of s axes, each in its range
+unfoldable pub isWindow : List ℕ → ℕ → Bool
+isWindow w s = eqb (length w) (2 * s) && areCuts w s

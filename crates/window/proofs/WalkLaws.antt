@@ -1,0 +1,204 @@
+-- The walk over a run held in arrays: which windows are taken, what an axis leaves of the flags, what parts of a run add up to, and that the
+-- bound is a word. Assumes nothing.
+use mathlib.Core.Path.{_≡_, refl, sym, ap, _∙_}
+use mathlib.Core.Bool.{Bool, true, false, _&&_, and-false, and-eq-true-iff}
+use mathlib.Core.Logic.{_⊎_, inl, inr}
+use mathlib.Core.List.{List}
+use Prim.Native.Nat.{ℕ, zero, suc, _+_, _*_, _^_, _≤_, _<_}
+use native.Mathlib.Nat.{add-assoc, eq-or-lt-of-le, le-of-suc-le-suc, not-suc-le-zero, le-refl}
+use native.Mathlib.Numerals.{add-one}
+use native.Mathlib.Omega.{arith}
+use lib.Dec.{ltb, leb, eqb}
+use lib.ListN.{length, getD, replicate, getD-replicate}
+use borrow.Author.Tests.{lt-ltb, le-ltb, le-leb, lt-leb, leb-true, ltb-true, eq-eqb, ne-eqb, eqb-true}
+use Rattle.numbers.specs.Count.{bit, count}
+use Rattle.numbers.specs.Cut.{belowCut}
+use Rattle.numbers.proofs.CountLaws.{count-ext, count-parts}
+use Rattle.discrepancy.specs.Bound.{factor, haltonAxes}
+use Rattle.discrepancy.proofs.FitLaws.{bound-fits}
+use Rattle.blocks.specs.Filling.{Column}
+use Rattle.points.specs.Arrays.{numeratorAt, numeratorFrom, denominatorAt, Arrays}
+use Rattle.points.proofs.ArrayLaws.{denominator-at-lt, numerator-at-lt}
+use Rattle.window.specs.Counting.{uOf, qOf, boundOver, isCut, areCuts, isWindow, Cuts}
+use Rattle.window.specs.Walking.{insideBy, insideFrom, boundBy, keepIf, Flags, marked, Marked, Room}
+use Rattle.window.proofs.Demand3.{runAxes, same-bound}
+
+-- ---- windows that are taken
+
+pub cut-none : (u q : ℕ) → q < 1 → isCut u q ≡ false
+unfolding isCut
+cut-none u q h = rw (le-ltb 0 q (omega arith)) refl
+
+pub cut-fine : (u q : ℕ) → 1 ≤ q → 2 ^ 24 < q → isCut u q ≡ false
+unfolding isCut
+cut-fine u q l h = rw (lt-ltb 0 q (omega arith), lt-leb q (2 ^ 24) h) refl
+
+pub cut-by : (u q : ℕ) → 1 ≤ q → q ≤ 2 ^ 24 → leb u q ≡ isCut u q
+unfolding isCut
+cut-by u q l h = rw (lt-ltb 0 q (omega arith), le-leb q (2 ^ 24) h) refl
+
+cut-range : (u q : ℕ) → isCut u q ≡ true → (0 < q) × (q ≤ 2 ^ 24) × (u ≤ q)
+unfolding isCut
+cut-range u q e =
+    let a = and-eq-true-iff (ltb 0 q) (leb q (2 ^ 24) && leb u q) .0 e in
+    let b = and-eq-true-iff (leb q (2 ^ 24)) (leb u q) .0 (a .1) in
+    (ltb-true 0 q (a .0), leb-true q (2 ^ 24) (b .0), leb-true u q (b .1))
+
+module _ (w : List ℕ) where
+  pub cuts-none : areCuts w 0 ≡ true
+  unfolding areCuts
+  cuts-none = refl
+
+  pub cuts-more : (s : ℕ) → areCuts w s ≡ true → isCut (uOf w s) (qOf w s) ≡ true → areCuts w (s + 1) ≡ true
+  unfolding areCuts
+  cuts-more s a e = rw (add-one s, a, e) refl
+
+  cuts-fail : (s i : ℕ) → i < s → isCut (uOf w i) (qOf w i) ≡ false → areCuts w s ≡ false
+  unfolding areCuts
+  cuts-fail zero i l e = absurd (not-suc-le-zero l)
+  cuts-fail (suc s) i l e = go (eq-or-lt-of-le (le-of-suc-le-suc l)) (λ h. cuts-fail s i h e)
+    where
+      go : (i ≡ s) ⊎ (i < s) → (i < s → areCuts w s ≡ false) → areCuts w (suc s) ≡ false
+      go (inl h) before = rw (sym h, e) (and-false (areCuts w i))
+      go (inr h) before = rw (before h) refl
+
+  cuts-at : (s i : ℕ) → areCuts w s ≡ true → i < s → isCut (uOf w i) (qOf w i) ≡ true
+  unfolding areCuts
+  cuts-at zero i e l = absurd (not-suc-le-zero l)
+  cuts-at (suc s) i e l =
+      let a = and-eq-true-iff (areCuts w s) (isCut (uOf w s) (qOf w s)) .0 e in
+      go (a .1) (cuts-at s i (a .0)) (eq-or-lt-of-le (le-of-suc-le-suc l))
+    where
+      go : isCut (uOf w s) (qOf w s) ≡ true → (i < s → isCut (uOf w i) (qOf w i) ≡ true) → (i ≡ s) ⊎ (i < s) → isCut (uOf w i) (qOf w i) ≡ true
+      go here before (inl h) = rw h here
+      go here before (inr h) = before h
+
+  module _ (s : ℕ) where
+    pub window-long : (length w ≡ 2 * s → ⊥) → isWindow w s ≡ false
+    unfolding isWindow
+    window-long f = rw (ne-eqb (length w) (2 * s) f) refl
+
+    pub window-off : (i : ℕ) → length w ≡ 2 * s → i < s → isCut (uOf w i) (qOf w i) ≡ false → isWindow w s ≡ false
+    unfolding isWindow
+    window-off i e l f = rw (eq-eqb (length w) (2 * s) e, cuts-fail s i l f) refl
+
+    pub window-is : length w ≡ 2 * s → areCuts w s ≡ true → isWindow w s ≡ true
+    unfolding isWindow
+    window-is e a = rw (eq-eqb (length w) (2 * s) e, a) refl
+
+    module _ (h : isWindow w s ≡ true) where
+      window-parts : (eqb (length w) (2 * s) ≡ true) × (areCuts w s ≡ true)
+      unfolding isWindow
+      window-parts = and-eq-true-iff (eqb (length w) (2 * s)) (areCuts w s) .0 h
+
+      -- such a window has cuts
+      pub window-cuts : Cuts w s
+      window-cuts =
+          record {
+            q-pos = λ i l. cut-range (uOf w i) (qOf w i) (cuts-at s i (window-parts .1) l) .0;
+            u-le = λ i l. cut-range (uOf w i) (qOf w i) (cuts-at s i (window-parts .1) l) .2;
+          }
+
+      -- and numbers that the walk can multiply
+      pub window-room : Room w s
+      window-room =
+          record {
+            enough = omega (arith, eqb-true (length w) (2 * s) (window-parts .0));
+            u-small = λ i l. let r = cut-range (uOf w i) (qOf w i) (cuts-at s i (window-parts .1) l) in omega (arith, r .1, r .2);
+            q-small = λ i l. cut-range (uOf w i) (qOf w i) (cuts-at s i (window-parts .1) l) .1;
+          }
+
+-- ---- flags
+
+pub keep-yes : (a b f : ℕ) → a < b → f ≡ keepIf (ltb a b) f
+unfolding keepIf
+keep-yes a b f h = rw (lt-ltb a b h) refl
+
+pub keep-no : (a b f : ℕ) → b ≤ a → 0 ≡ keepIf (ltb a b) f
+unfolding keepIf
+keep-no a b f h = rw (le-ltb a b h) refl
+
+keep-bit : (a b : Bool) → keepIf b (bit a) ≡ bit (a && b)
+unfolding keepIf
+keep-bit true true = refl
+keep-bit true false = refl
+keep-bit false true = refl
+keep-bit false false = refl
+
+module _ (family : ℕ) (bases vs w : List ℕ) (n : ℕ) where
+  -- no axis yet
+  pub flags-none : (m : ℕ) → m ≤ 1024 → Flags (insideFrom family bases vs w 0 n) m (replicate 1024 1)
+  unfolding insideFrom insideBy
+  flags-none m h = record { at = λ i l. getD-replicate 1024 i 1 0 (omega arith) }
+
+  -- what a column holds
+  column-at : (s m : ℕ) (x₀ x : List ℕ) → Column (numeratorFrom family bases vs n s) 0 m 1 0 x₀ x → (i : ℕ) → i < m → getD x i 0 ≡ numeratorAt family bases vs (n + i) s
+  unfolding numeratorFrom
+  column-at s m x₀ x c i h = ap (λ (y : ℕ). getD x y 0) {x = i} {y = i * 1 + 0} (omega arith) ∙ c .wrote i (omega arith) h
+
+  pub column-small : (s m : ℕ) (x₀ x : List ℕ) → Column (numeratorFrom family bases vs n s) 0 m 1 0 x₀ x → {axes : ℕ} → Arrays family axes bases vs → s < axes
+      → (i : ℕ) → i < m → getD x i 0 < 2 ^ 40
+  column-small s m x₀ x c a l i h = omega (arith, column-at s m x₀ x c i h, numerator-at-lt a s l (n + i), denominator-at-lt a s l)
+
+  -- one axis more
+  pub flags-more : (s m q limit : ℕ) (x₀ x l new : List ℕ) → Flags (insideFrom family bases vs w s n) m l
+      → Column (numeratorFrom family bases vs n s) 0 m 1 0 x₀ x → Marked q limit m x l new
+      → q ≡ qOf w s → limit ≡ uOf w s * denominatorAt family bases s → Flags (insideFrom family bases vs w (s + 1) n) m new
+  unfolding insideFrom insideBy belowCut marked
+  flags-more s m q limit x₀ x l new f c k e d = record { at = one }
+    where
+      one : (i : ℕ) → i < m → getD new i 0 ≡ bit (insideBy family bases vs w (n + i) (s + 1))
+      one i h =
+          k .at i h
+          ∙ rw (column-at s m x₀ x c i h, f .at i h, e, d, add-one s)
+          (keep-bit (insideBy family bases vs w (n + i) s) (ltb (numeratorAt family bases vs (n + i) s * qOf w s) (uOf w s * denominatorAt family bases s)))
+
+  -- ---- parts of a run
+
+  pub parts-join : (s i m : ℕ) → count (insideFrom family bases vs w s n) (i + m) ≡ count (insideFrom family bases vs w s n) i + count (insideFrom family bases vs w s (n + i)) m
+  unfolding insideFrom
+  parts-join s i m =
+      count-parts (insideFrom family bases vs w s n) i m
+      ∙ ap (λ (k : ℕ). count (insideFrom family bases vs w s n) i + k)
+      (count-ext (λ j. insideFrom family bases vs w s n (i + j)) (insideFrom family bases vs w s (n + i)) m (λ j l. ap (λ (k : ℕ). insideBy family bases vs w k s) (sym (add-assoc n i j))))
+
+pub count-none : (p : ℕ → Bool) → 0 ≡ count p 0
+unfolding count
+count-none p = refl
+
+-- one flag more
+pub count-more : (p : ℕ → Bool) (i : ℕ) → count p (i + 1) ≡ count p i + bit (p i)
+unfolding count
+count-more p i = rw add-one refl
+
+pub count-le : (p : ℕ → Bool) (n : ℕ) → count p n ≤ n
+unfolding count
+count-le p zero = omega arith
+count-le p (suc n) = omega (arith, count-le p n, bit-le (p n))
+  where
+    bit-le : (b : Bool) → bit b ≤ 1
+    bit-le true = le-refl 1
+    bit-le false = omega arith
+
+-- ---- the bound
+
+module _ (bases : List ℕ) (N : ℕ) where
+  pub bound-over-none : 1 ≡ boundOver bases N 0
+  unfolding boundOver
+  bound-over-none = refl
+
+  pub bound-over-more : (s : ℕ) → boundOver bases N (s + 1) ≡ boundOver bases N s * factor (getD bases s 0) N
+  unfolding boundOver
+  bound-over-more s = rw add-one refl
+
+  pub bound-over-fits : N ≤ 2 ^ 32 → (s : ℕ) → s ≤ 6 → ((i : ℕ) → i < s → (2 ≤ getD bases i 0) × (getD bases i 0 ≤ 256)) → boundOver bases N s < 2 ^ 64
+  unfolding haltonAxes
+  bound-over-fits h s l b = rw (same-bound 0 bases bases 0 N s) at (bound-fits N (runAxes 0 bases bases 0) h s l b)
+
+pub bound-sobol : (family : ℕ) (bases : List ℕ) (N s : ℕ) → family ≡ 2 → 0 ≡ boundBy (eqb family 2) bases N s
+unfolding boundBy
+bound-sobol family bases N s e = rw (eq-eqb family 2 e) refl
+
+pub bound-halton : (family : ℕ) (bases : List ℕ) (N s : ℕ) → (family ≡ 2 → ⊥) → boundOver bases N s ≡ boundBy (eqb family 2) bases N s
+unfolding boundBy
+bound-halton family bases N s f = rw (ne-eqb family 2 f) refl

@@ -1,0 +1,18 @@
+-- `window::is_cut` meets its contract: one law a return. Assumes nothing.
+use native.Mathlib.Omega.{arith}
+use mathlib.Core.Path.{sym}
+use Rattle.window.proofs.WalkLaws.{cut-none, cut-fine, cut-by}
+use Rattle.window.proofs.is_cut.Statement.{statement}
+use Rattle.window.proofs.is_cut.Tie as tie
+
+returns : tie.Need-returns
+returns c = sym (cut-none _ _ (omega arith))
+
+returns-2 : tie.Need-returns-2
+returns-2 c = sym (cut-fine _ _ (omega arith) (omega arith))
+
+returns-3 : tie.Need-returns-3
+returns-3 c = cut-by _ _ (omega arith) (omega arith)
+
+pub is-cut-spec : {M : Type 1} → statement M
+is-cut-spec = tie.close (tie.spec returns returns-2 returns-3)

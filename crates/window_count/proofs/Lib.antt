@@ -1,0 +1,3 @@
+-- Laws of the window count.
+pub mod CaseLaws
+pub mod Demand3

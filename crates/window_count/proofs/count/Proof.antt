@@ -1,0 +1,95 @@
+-- One case law a return; the walk over the state's arrays counts its plan's points. Assumes nothing.
+use mathlib.Core.Path.{_≡_, sym, _∙_}
+use mathlib.Core.Bool.{true, false}
+use Prim.Native.Nat.{ℕ}
+use native.Mathlib.Omega.{arith}
+use borrow.Author.Needs.{needs}
+use Rattle.state.specs.State.{genuine}
+use Rattle.sampler.proofs.CaseLaws.{foreign-of, known-of}
+use Rattle.sampler.proofs.PointLaws.{axes-few, known-arrays, known-run}
+use Rattle.window.specs.Counting.{isWindow}
+use Rattle.window.proofs.WalkLaws.{window-room}
+use Rattle.window_count.specs.Call.{counted}
+use Rattle.window_count.proofs.CaseLaws.{count-foreign, count-off, count-done, count-walked, bound-known}
+use Rattle.window_count.proofs.count.Statement.{statement}
+use Rattle.window_count.proofs.count.Tie as tie
+
+is-genuine-requires : tie.Need-is-genuine-requires
+is-genuine-requires c κs = search needs
+
+foreign : (c : tie.Then1) → genuine (c .before .before .before .args .s) ≡ false
+foreign c = foreign-of _ _ (c .before .is-genuine .ensures) (c .if1 .taken)
+
+known : (c : tie.Else1) → genuine (c .before .before .before .args .s) ≡ true
+known c = known-of _ _ (c .before .is-genuine .ensures) (c .if1 .left)
+
+off : (c : tie.Then2) → isWindow (c .before .before .before .before .before .args .w .now) (c .before .before .before .before .before .args .s .axes) ≡ false
+off c = foreign-of _ _ (c .before .is-window .ensures) (c .if2 .taken)
+
+fits : (c : tie.Else2) → isWindow (c .before .before .before .before .before .args .w .now) (c .before .before .before .before .before .args .s .axes) ≡ true
+fits c = known-of _ _ (c .before .is-window .ensures) (c .if2 .left)
+
+refused-requires : tie.Need-refused-requires
+refused-requires c κs = search needs
+
+returns : tie.Need-returns
+returns c = c .refused .ensures ∙ sym (count-foreign _ _ (foreign (c .before)))
+
+is-window-requires : tie.Need-is-window-requires
+is-window-requires c κs = axes-few _ (known c) .1
+
+refused-requires-2 : tie.Need-refused-requires-2
+refused-requires-2 c κs = search needs
+
+returns-2 : tie.Need-returns-2
+returns-2 c = c .refused2 .ensures ∙ sym (count-off _ _ (known (c .before .before .before)) (off (c .before)))
+
+slice-aggregate-count-inside : tie.Need-slice-aggregate-count-inside
+slice-aggregate-count-inside c = search needs
+
+slice-aggregate-count-inside-2 : tie.Need-slice-aggregate-count-inside-2
+slice-aggregate-count-inside-2 c = search needs
+
+count-inside-requires : tie.Need-count-inside-requires
+count-inside-requires c κs =
+    let s = known (c .before .before .before .before .before .before) in
+    (known-arrays _ s, omega (arith, known-run _ s), window-room _ _ (fits (c .before .before .before .before)))
+
+slice-aggregate-bound : tie.Need-slice-aggregate-bound
+slice-aggregate-bound c = search needs
+
+slice-aggregate-bound-2 : tie.Need-slice-aggregate-bound-2
+slice-aggregate-bound-2 c = search needs
+
+bound-requires : tie.Need-bound-requires
+bound-requires c κs =
+    let s = known (c .before .before .before .before .before .before .before .before .before) in
+    (known-arrays _ s, omega (arith, known-run _ s .0))
+
+answer : {i i′ b b′ : ℕ} → i ≡ i′ → b ≡ b′ → counted 0 i b ≡ counted 0 i′ b′
+answer e f = λ j. counted 0 (e j) (f j)
+
+returns-3 : tie.Need-returns-3
+returns-3 c =
+    let s = known (c .before .before .before .before .before .before .before .before .before .before) in
+    let a = c .before .before .before .before .before .before .before .before .before .before .before .before .before .args in
+    answer (c .before .before .before .count-inside .ensures ∙ count-walked (a .s) (a .w .now) s (a .s .start) (a .s .count)) (c .bound .ensures ∙ bound-known (a .s) (a .w .now) s (a .s .count))
+    ∙ sym (count-done _ _ s (fits (c .before .before .before .before .before .before .before .before)))
+
+pub count-spec : {M : Type 1} → statement M
+count-spec =
+    tie.close
+    (tie.spec
+    is-genuine-requires
+    refused-requires
+    returns
+    is-window-requires
+    refused-requires-2
+    returns-2
+    slice-aggregate-count-inside
+    slice-aggregate-count-inside-2
+    count-inside-requires
+    slice-aggregate-bound
+    slice-aggregate-bound-2
+    bound-requires
+    returns-3)
