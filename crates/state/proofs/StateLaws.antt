@@ -1,5 +1,6 @@
 -- The arrays of an accepted answer and of a genuine state are its plan's, so that the points by them are the plan's points. Assumes nothing.
 use mathlib.Core.Path.{_≡_, refl, sym, ap, _∙_}
+use mathlib.Core.Bool.{Bool, true, false}
 use mathlib.Core.List.{List}
 use Prim.Native.Nat.{ℕ, _+_, _<_, _≤_}
 use native.Mathlib.Omega.{arith}
@@ -15,9 +16,9 @@ use Rattle.points.specs.Point.{axisCount, pointOf, pointsFrom}
 use Rattle.points.specs.Arrays.{familyOf, basesArray, polynomialsArray, directionsIn, directionsArray, pointAt, pointsAt, Arrays}
 use Rattle.points.proofs.PointLaws.{axis-count}
 use Rattle.points.proofs.ArrayLaws.{arrays-of, point-at-plan, points-at-plan}
-use Rattle.state.specs.State.{pick, nextPoint, made, planIn}
+use Rattle.state.specs.State.{pick, nextPoint, made, blank, planIn, genuine}
 use Rattle.state.specs.declared.Sampler.{Sampler}
-use Rattle.state.proofs.GenuineLaws.{Genuine}
+use Rattle.state.proofs.GenuineLaws.{Genuine, genuine-is}
 
 -- ---- the next point
 
@@ -168,3 +169,15 @@ module _ {s : Sampler} (g : Genuine s) where
       let e : s .start + s .taken + 1 ≡ s .start + (s .taken + 1) = omega arith in
       genuine-point (s .start + s .taken + 1) ∙ ap (λ (n : ℕ). padded 6 (pointOf (planIn s) n)) e
       ∙ next-some (planIn s) (s .start) (s .count) (s .taken + 1) h
+
+-- the blank state has no axes, and no plan is so
+pub blank-foreign : genuine blank ≡ false
+unfolding blank
+blank-foreign = go (genuine blank) refl
+  where
+    go : (b : Bool) → genuine blank ≡ b → genuine blank ≡ false
+    go false e = e
+    go true e =
+        let g = genuine-is blank e in
+        let none : 0 ≡ axisCount (planIn blank) = genuine-holds g .axes-is in
+        absurd (omega (arith, none, axis-count (planIn blank) (g .valid) .0))

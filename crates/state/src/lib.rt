@@ -8,7 +8,7 @@ ghost use lib.ListN.{length, replicate};
 ghost use Rattle.numbers.specs.Listed.{padded};
 ghost use Rattle.plan.specs.Plan.{Valid, sobol};
 ghost use Rattle.plan.specs.Answer.{axesOf, planAnswered, Accepted};
-ghost use Rattle.points.specs.Arrays.{directionsIn, Arrays, pointAt};
+ghost use Rattle.points.specs.Arrays.{directionsIn, directionsArray, Arrays, pointAt};
 ghost use Rattle.state.specs.State.{pick, planIn, nextPoint, made, blank, genuine};
 
 // A sampler: its plan, its run, and how many of the run's points are taken. `directions` has 32 words for each Sobol axis; `numerators` is
@@ -62,6 +62,19 @@ fn direction_table(axes: usize, polynomials: &[u64], ms: &[u64]) -> [u64; 192]
     table
 }
 
+// The direction numbers of a plan that the reader accepted, zeros in a Halton plan.
+pub fn plan_directions(a: PlanRead) -> [u64; 192]
+    requires { ⌜ Accepted a ⌝ }
+    ensures { λ r. ⌜ r ≡ directionsArray (planAnswered a) ⌝ }
+{
+    if a.family != 2 {
+        return [0; 192];
+    }
+    let polynomials = a.polynomials;
+    let ms = a.ms;
+    direction_table(a.axes, &polynomials, &ms)
+}
+
 // The point of index start + taken, and zeros where no point is left.
 pub fn next_point(
     family: u64,
@@ -90,12 +103,7 @@ pub fn make(a: PlanRead, start: u64, count: u64, taken: u64) -> Sampler
     let axes = a.axes;
     let bases = a.bases;
     let polynomials = a.polynomials;
-    let ms = a.ms;
-    let directions = if family == 2 {
-        direction_table(axes, &polynomials, &ms)
-    } else {
-        [0; 192]
-    };
+    let directions = plan_directions(a);
     let numerators = next_point(family, axes, &bases, &directions, start, count, taken);
     Sampler {
         family,

@@ -7,31 +7,17 @@ use native.Mathlib.Omega.{arith}
 use lib.ListN.{length, take, drop, length-append}
 use lib.Seq.{length-take-le}
 use Rattle.bits.specs.Stream.{AllBelow, overwrite}
-use Rattle.plan.specs.Plan.{Plan, halton, sobol}
-use Rattle.plan.specs.Reading.{Reading, refused, accepted, readPlan}
+use Rattle.plan.specs.Reading.{Reading, accepted, readPlan}
 use Rattle.plan.specs.Answer.{answerOf, planAnswered, Accepted}
 use Rattle.plan.specs.declared.PlanRead.{PlanRead}
 use Rattle.plan.proofs.RefusalLaws.{refused-range}
-use Rattle.writer.proofs.RoundTrip.{read-accepted}
+use Rattle.writer.proofs.RoundTrip.{read-accepted, read-refused}
 use Rattle.walk_text.specs.Text.{textOf, walkText}
 use Rattle.walk_text.specs.Parts.{Put}
 
-accepted-code : (p : Plan) → answerOf (accepted p) .code ≡ 0
-unfolding answerOf
-accepted-code (halton family bases) = refl
-accepted-code (sobol axes) = refl
-
 module _ (bytes : List ℕ) (a : PlanRead) (e : a ≡ answerOf (readPlan bytes)) where
-  pub read-refused : (a .code ≡ 0 → ⊥) → readPlan bytes ≡ refused (a .code)
-  unfolding answerOf
-  read-refused f = go (readPlan bytes) refl
-    where
-      go : (r : Reading) → readPlan bytes ≡ r → readPlan bytes ≡ refused (a .code)
-      go (refused n) g = g ∙ ap refused (sym (ap (λ (x : PlanRead). x .code) (e ∙ ap answerOf g)))
-      go (accepted p) g = absurd (f (ap (λ (x : PlanRead). x .code) (e ∙ ap answerOf g) ∙ accepted-code p))
-
   pub code-low : (a .code ≡ 0 → ⊥) → a .code ≤ 10
-  code-low f = refused-range bytes (a .code) (read-refused f) .1
+  code-low f = refused-range bytes (a .code) (read-refused bytes a e f) .1
 
   module _ (below : AllBelow 256 bytes) (z : a .code ≡ 0) where
     pub read-plan-is : readPlan bytes ≡ accepted (planAnswered a)

@@ -9,7 +9,7 @@ use lib.ListN.{length, take, drop}
 use lib.Seq.{take-at}
 use borrow.Author.Tests.{le-ltb}
 use Rattle.bits.specs.Stream.{AllBelow}
-use Rattle.plan.specs.Plan.{Plan, Valid, spell}
+use Rattle.plan.specs.Plan.{Plan, halton, sobol, Valid, spell}
 use Rattle.plan.specs.Reading.{Reading, refused, accepted, readPlan}
 use Rattle.plan.specs.Answer.{answerOf, planAnswered}
 use Rattle.plan.specs.declared.PlanRead.{PlanRead}
@@ -32,6 +32,16 @@ read-accepted bytes below a e z = go (readPlan bytes) refl
         let w = accepted-iff bytes below p .0 f in
         let same : p ≡ planAnswered a = sym (ap planAnswered (e ∙ ap answerOf f) ∙ plan-of-answer p (w .0)) in
         (f ∙ ap accepted same, subst Valid same (w .0), w .1 ∙ ap spell same)
+
+-- `a` answers a reading of the bytes that is refused, with its number
+pub read-refused : (bytes : List ℕ) (a : PlanRead) → a ≡ answerOf (readPlan bytes) → (a .code ≡ 0 → ⊥) → readPlan bytes ≡ refused (a .code)
+unfolding answerOf
+read-refused bytes a e f = go (readPlan bytes) refl
+  where
+    go : (r : Reading) → readPlan bytes ≡ r → readPlan bytes ≡ refused (a .code)
+    go (refused n) g = g ∙ ap refused (sym (ap (λ (x : PlanRead). x .code) (e ∙ ap answerOf g)))
+    go (accepted (halton family bases)) g = absurd (f (ap (λ (x : PlanRead). x .code) (e ∙ ap answerOf g)))
+    go (accepted (sobol axes)) g = absurd (f (ap (λ (x : PlanRead). x .code) (e ∙ ap answerOf g)))
 
 -- what was read and is written again is the same bytes, and nothing behind them changes
 pub write-after-read : (bytes old new : List ℕ) (a : PlanRead) (code len : ℕ) → AllBelow 256 bytes → a ≡ answerOf (readPlan bytes) → a .code ≡ 0

@@ -1,0 +1,69 @@
+-- Each answer of each call, from the tests that lead to it; and what putting a plan's point leaves. Assumes nothing.
+use mathlib.Core.Path.{_≡_, refl, sym, ap, _∙_}
+use mathlib.Core.List.{List, _++_}
+use Prim.Native.Nat.{ℕ, _+_, _*_, _^_, _<_, _≤_}
+use native.Mathlib.Omega.{arith}
+use lib.ListN.{length, take, drop}
+use borrow.Author.Tests.{lt-ltb, le-ltb, le-leb, lt-leb}
+use Rattle.numbers.proofs.ListedLaws.{padded-take}
+use Rattle.bits.specs.Stream.{AllBelow, overwrite}
+use Rattle.plan.specs.Plan.{Plan, Valid}
+use Rattle.plan.specs.Reading.{refused, accepted, readPlan}
+use Rattle.plan.specs.Answer.{answerOf, planAnswered, Accepted}
+use Rattle.plan.specs.declared.PlanRead.{PlanRead}
+use Rattle.points.specs.Point.{axisCount, pointOf}
+use Rattle.points.specs.Arrays.{directionsArray, pointAt}
+use Rattle.points.proofs.PointLaws.{point-of-length}
+use Rattle.writer.proofs.RoundTrip.{read-accepted}
+use Rattle.state.proofs.StateLaws.{Holds, holds-point, accepted-holds}
+use Rattle.hisowake.specs.Bytes.{wordBytes}
+use Rattle.hisowake.specs.Calls.{pointCodeBy, pointCode, pointBytesBy, pointBytes}
+use Rattle.hisowake.proofs.ByteLaws.{length-words}
+
+-- ---- the plan that is read
+
+pub answer-accepted : (bytes : List ℕ) (a : PlanRead) → AllBelow 256 bytes → a ≡ answerOf (readPlan bytes) → a .code ≡ 0
+    → (readPlan bytes ≡ accepted (planAnswered a)) × Accepted a
+answer-accepted bytes a below e z =
+    let w = read-accepted bytes below a e z in
+    (w .0, record { valid = w .1; is = e ∙ ap answerOf (w .0) })
+
+pub accepted-axes : {a : PlanRead} → Accepted a → a .axes ≡ axisCount (planAnswered a)
+accepted-axes {a} h = accepted-holds h (directionsArray (planAnswered a)) refl .axes-is
+
+-- ---- the point of a plan's arrays, at the front of a buffer
+
+pub point-put : {p : Plan} {family axes : ℕ} {bases vs : List ℕ} → Holds p family axes bases vs → Valid p → (n : ℕ) (old new x : List ℕ)
+    → x ≡ pointAt family axes bases vs n → new ≡ overwrite old 0 (wordBytes (take axes x)) → new ≡ wordBytes (pointOf p n) ++ drop (8 * axes) old
+unfolding overwrite
+point-put {p} {axes = axes} h v n old new x e put =
+    let long : length (pointOf p n) ≡ axes = point-of-length p n ∙ sym (h .axes-is) in
+    let front : take axes x ≡ pointOf p n = ap (take axes) (e ∙ holds-point h v n) ∙ padded-take 6 (pointOf p n) axes long in
+    let size : 0 + length (wordBytes (pointOf p n)) ≡ 8 * axes = omega (arith, length-words (pointOf p n), long) in
+    put ∙ rw (front, size) refl
+
+-- ---- the C point
+
+module _ (bytes : List ℕ) (index : ℕ) (out : List ℕ) where
+  pub point-refused : (n : ℕ) → readPlan bytes ≡ refused n → (n ≡ pointCode bytes index out) × (out ≡ pointBytes bytes index out)
+  unfolding pointCode pointCodeBy pointBytes pointBytesBy
+  point-refused n e = (rw e refl, rw e refl)
+
+  module _ (p : Plan) (e : readPlan bytes ≡ accepted p) where
+    pub point-out : 2 ^ 32 ≤ index → (11 ≡ pointCode bytes index out) × (out ≡ pointBytes bytes index out)
+    unfolding pointCode pointCodeBy pointBytes pointBytesBy
+    point-out h = (rw (e, le-leb (2 ^ 32) index h) refl, rw (e, le-leb (2 ^ 32) index h) refl)
+
+    module _ (h : index < 2 ^ 32) where
+      pub point-no-room : length out < 8 * axisCount p → (13 ≡ pointCode bytes index out) × (out ≡ pointBytes bytes index out)
+      unfolding pointCode pointCodeBy pointBytes pointBytesBy
+      point-no-room r =
+          (rw (e, lt-leb (2 ^ 32) index h, lt-ltb (length out) (8 * axisCount p) r) refl, rw (e, lt-leb (2 ^ 32) index h, lt-ltb (length out) (8 * axisCount p) r) refl)
+
+      -- what is put is the plan's point of the index, with as many axes as the plan has
+      pub point-done : {new : List ℕ} {axes n : ℕ} → new ≡ wordBytes (pointOf p n) ++ drop (8 * axes) out → n ≡ index → axes ≡ axisCount p
+          → 8 * axes ≤ length out → (0 ≡ pointCode bytes index out) × (new ≡ pointBytes bytes index out)
+      unfolding pointCode pointCodeBy pointBytes pointBytesBy
+      point-done put en ea r =
+          let room = le-ltb (length out) (8 * axisCount p) (omega arith) in
+          (rw (e, lt-leb (2 ^ 32) index h, room) refl, put ∙ rw (e, lt-leb (2 ^ 32) index h, room, en, ea) refl)

@@ -1,0 +1,60 @@
+-- What each C call answers, for all inputs, and what each lent byte then holds (01-scope.md, "What the collector carries" and "When a call is
+-- turned down"). A refusal answers its number and changes no byte. Definitions only.
+use mathlib.Core.Bool.{Bool, _&&_}
+use mathlib.Core.List.{List, [], _∷_, _++_}
+use Prim.Native.Nat.{ℕ, _+_, _*_, _^_}
+use lib.Dec.{ltb, leb, eqb}
+use lib.ListN.{length, drop}
+use Rattle.numbers.specs.Choice.{choose}
+use Rattle.plan.specs.Plan.{Plan}
+use Rattle.plan.specs.Reading.{Reading, refused, accepted, readPlan}
+use Rattle.points.specs.Point.{axisCount, pointOf}
+use Rattle.state.specs.State.{pick}
+use Rattle.window.specs.Counting.{insideCount, boundOf, isWindow}
+use Rattle.hisowake.specs.Bytes.{wordBytes, windowIn}
+
+-- ---- point: the reading's numbers, 11, 13
+
+unfoldable pub pointCodeBy : Reading → ℕ → List ℕ → ℕ
+pointCodeBy (refused n) index out = n
+pointCodeBy (accepted p) index out = choose (leb (2 ^ 32) index) 11 (choose (ltb (length out) (8 * axisCount p)) 13 0)
+
+unfoldable pub pointCode : List ℕ → ℕ → List ℕ → ℕ
+pointCode plan index out = pointCodeBy (readPlan plan) index out
+
+-- the point's numerators in front of what lay behind them
+unfoldable pub pointBytesBy : Reading → ℕ → List ℕ → List ℕ
+pointBytesBy (refused n) index out = out
+pointBytesBy (accepted p) index out =
+    pick (eqb (pointCodeBy (accepted p) index out) 0) (wordBytes (pointOf p index) ++ drop (8 * axisCount p) out) out
+
+unfoldable pub pointBytes : List ℕ → ℕ → List ℕ → List ℕ
+pointBytes plan index out = pointBytesBy (readPlan plan) index out
+
+-- ---- window count: the reading's numbers, 11, 14, 13
+
+-- 8 bytes an axis, and each u and q in its range
+unfoldable pub isWindowBytes : List ℕ → ℕ → Bool
+isWindowBytes window s = eqb (length window) (8 * s) && isWindow (windowIn window s) s
+
+-- S and the bound
+unfoldable pub answersOf : Plan → ℕ → ℕ → List ℕ → List ℕ
+answersOf p start count window = insideCount p (windowIn window (axisCount p)) start count ∷ boundOf p count ∷ []
+
+unfoldable pub countCodeBy : Reading → ℕ → ℕ → List ℕ → List ℕ → ℕ
+countCodeBy (refused n) start count window out = n
+countCodeBy (accepted p) start count window out =
+    choose (ltb (2 ^ 32) (start + count)) 11 (choose (isWindowBytes window (axisCount p)) (choose (ltb (length out) 16) 13 0) 14)
+
+unfoldable pub countCode : List ℕ → ℕ → ℕ → List ℕ → List ℕ → ℕ
+countCode plan start count window out = countCodeBy (readPlan plan) start count window out
+
+-- they stand in front of what lay behind them
+unfoldable pub countBytesBy : Reading → ℕ → ℕ → List ℕ → List ℕ → List ℕ
+countBytesBy (refused n) start count window out = out
+countBytesBy (accepted p) start count window out =
+    pick (eqb (countCodeBy (accepted p) start count window out) 0)
+    (wordBytes (answersOf p start count window) ++ drop 16 out) out
+
+unfoldable pub countBytes : List ℕ → ℕ → ℕ → List ℕ → List ℕ → List ℕ
+countBytes plan start count window out = countBytesBy (readPlan plan) start count window out

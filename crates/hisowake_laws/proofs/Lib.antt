@@ -1,0 +1,3 @@
+-- The C calls by the sampler's.
+pub mod WordLaws
+pub mod SamplerLaws
