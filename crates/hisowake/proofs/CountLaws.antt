@@ -1,14 +1,17 @@
 -- The window count: windows out of bytes, what putting S and the bound leaves, and each answer from the tests that lead to it. Assumes nothing.
 use mathlib.Core.Path.{_≡_, refl, _∙_}
-use mathlib.Core.Bool.{true, false, and-eq-true-iff}
+use mathlib.Core.Bool.{Bool, true, false, and-eq-true-iff}
+use mathlib.Core.Logic.{_⊎_, inl, inr, ⊎-elim}
 use mathlib.Core.List.{List, [], _∷_, _++_}
 use Prim.Native.Nat.{ℕ, _+_, _*_, _^_, _<_, _≤_}
 use native.Mathlib.Omega.{arith}
 use lib.Dec.{eqb}
 use lib.ListN.{length, take, drop}
 use borrow.Author.Tests.{lt-ltb, le-ltb, eq-eqb, ne-eqb, eqb-true}
+use Rattle.numbers.specs.Choice.{choose}
 use Rattle.numbers.specs.Count.{count}
 use Rattle.numbers.specs.Listed.{padded}
+use Rattle.numbers.proofs.Cases.{lt-or-ge, eq-or-ne}
 use Rattle.numbers.proofs.ListedLaws.{listed-length, padded-take}
 use Rattle.bits.specs.Stream.{overwrite}
 use Rattle.plan.specs.Plan.{Plan, Valid}
@@ -19,8 +22,12 @@ use Rattle.window.specs.Counting.{isWindow}
 use Rattle.window.specs.Walking.{insideFrom, boundBy}
 use Rattle.window.proofs.PlanLaws.{count-held, bound-held}
 use Rattle.hisowake.specs.Bytes.{wordBytes, quadAt, windowIn}
-use Rattle.hisowake.specs.Calls.{isWindowBytes, answersOf, countCodeBy, countCode, countBytesBy, countBytes}
+use Rattle.hisowake.specs.Calls.{isWindowBytes, windowRefusal, answersOf, countRefusal, countCodeBy, countCode, countBytesBy, countBytes}
 use Rattle.hisowake.proofs.ByteLaws.{length-words}
+
+either : (b : Bool) → (b ≡ true) ⊎ (b ≡ false)
+either true = inl refl
+either false = inr refl
 
 -- ---- windows out of bytes
 
@@ -33,13 +40,25 @@ module _ (bytes : List ℕ) (s : ℕ) where
   pub window-front : take (2 * s) (padded 12 (windowIn bytes s)) ≡ windowIn bytes s
   window-front = padded-take 12 (windowIn bytes s) (2 * s) window-length
 
-  pub bytes-long : (length bytes ≡ 8 * s → ⊥) → false ≡ isWindowBytes bytes s
-  unfolding isWindowBytes
+  pub bytes-long : (length bytes ≡ 8 * s → ⊥) → 14 ≡ windowRefusal bytes s
+  unfolding windowRefusal isWindowBytes
   bytes-long f = rw (ne-eqb (length bytes) (8 * s) f) refl
 
-  pub bytes-by : length bytes ≡ 8 * s → isWindow (windowIn bytes s) s ≡ isWindowBytes bytes s
-  unfolding isWindowBytes
-  bytes-by e = rw (eq-eqb (length bytes) (8 * s) e) refl
+  module _ (e : length bytes ≡ 8 * s) where
+    pub bytes-off : isWindow (windowIn bytes s) s ≡ false → 14 ≡ windowRefusal bytes s
+    unfolding windowRefusal isWindowBytes
+    bytes-off f = rw (eq-eqb (length bytes) (8 * s) e, f) refl
+
+    pub bytes-right : isWindow (windowIn bytes s) s ≡ true → 0 ≡ windowRefusal bytes s
+    unfolding windowRefusal isWindowBytes
+    bytes-right t = rw (eq-eqb (length bytes) (8 * s) e, t) refl
+
+  pub refusal-bytes : windowRefusal bytes s ≡ 0 → isWindowBytes bytes s ≡ true
+  unfolding windowRefusal
+  refusal-bytes z = ⊎-elim (λ t. t) (λ f. absurd (omega (arith, off f))) (either (isWindowBytes bytes s))
+    where
+      off : isWindowBytes bytes s ≡ false → choose (isWindowBytes bytes s) 0 14 ≡ 14
+      off f = rw f refl
 
   pub window-bytes : isWindowBytes bytes s ≡ true → (length bytes ≡ 8 * s) × (isWindow (windowIn bytes s) s ≡ true)
   unfolding isWindowBytes
@@ -59,6 +78,35 @@ count-put {p} {axes = axes} h v start N window old new w inside bound e i b put 
     let size : 0 + length (wordBytes (inside ∷ bound ∷ [])) ≡ 16 = omega (arith, length-words (inside ∷ bound ∷ [])) in
     put ∙ rw (size, first, second, e, h .axes-is) refl
 
+-- ---- when a count is turned down
+
+module _ (start N w room : ℕ) where
+  pub refusal-out : 2 ^ 32 < start + N → 11 ≡ countRefusal start N w room
+  unfolding countRefusal
+  refusal-out h = rw (lt-ltb (2 ^ 32) (start + N) h) refl
+
+  module _ (h : start + N ≤ 2 ^ 32) where
+    pub refusal-off : (w ≡ 0 → ⊥) → w ≡ countRefusal start N w room
+    unfolding countRefusal
+    refusal-off f = rw (le-ltb (2 ^ 32) (start + N) h, ne-eqb w 0 f) refl
+
+    module _ (t : w ≡ 0) where
+      pub refusal-room : room < 16 → 13 ≡ countRefusal start N w room
+      unfolding countRefusal
+      refusal-room r = rw (le-ltb (2 ^ 32) (start + N) h, eq-eqb w 0 t, lt-ltb room 16 r) refl
+
+      pub refusal-none : 16 ≤ room → 0 ≡ countRefusal start N w room
+      unfolding countRefusal
+      refusal-none r = rw (le-ltb (2 ^ 32) (start + N) h, eq-eqb w 0 t, le-ltb room 16 r) refl
+
+  -- it is not: each test passes
+  pub refusal-zero : countRefusal start N w room ≡ 0 → (start + N ≤ 2 ^ 32) × (w ≡ 0) × (16 ≤ room)
+  refusal-zero z =
+      ⊎-elim (λ h. absurd (omega (arith, refusal-out h))) (λ h. ⊎-elim (λ t. (h, t, long h t)) (λ f. absurd (f (refusal-off h f ∙ z))) (eq-or-ne w 0)) (lt-or-ge (2 ^ 32) (start + N))
+    where
+      long : start + N ≤ 2 ^ 32 → w ≡ 0 → 16 ≤ room
+      long h t = ⊎-elim (λ r. absurd (omega (arith, refusal-room h t r))) (λ r. r) (lt-or-ge room 16)
+
 -- ---- the C window count
 
 module _ (bytes : List ℕ) (start N : ℕ) (window out : List ℕ) where
@@ -67,23 +115,15 @@ module _ (bytes : List ℕ) (start N : ℕ) (window out : List ℕ) where
   count-refused n e = (rw e refl, rw e refl)
 
   module _ (p : Plan) (e : readPlan bytes ≡ accepted p) where
-    pub count-out : 2 ^ 32 < start + N → (11 ≡ countCode bytes start N window out) × (out ≡ countBytes bytes start N window out)
+    pub count-turned : (c : ℕ) → c ≡ countRefusal start N (windowRefusal window (axisCount p)) (length out) → (c ≡ 0 → ⊥)
+        → (c ≡ countCode bytes start N window out) × (out ≡ countBytes bytes start N window out)
     unfolding countCode countCodeBy countBytes countBytesBy
-    count-out h = (rw (e, lt-ltb (2 ^ 32) (start + N) h) refl, rw (e, lt-ltb (2 ^ 32) (start + N) h) refl)
+    count-turned c is f =
+        let no : eqb (countRefusal start N (windowRefusal window (axisCount p)) (length out)) 0 ≡ false = ne-eqb _ 0 (λ z. f (is ∙ z)) in
+        (rw e is, rw (e, no) refl)
 
-    module _ (h : start + N ≤ 2 ^ 32) where
-      pub count-off : isWindowBytes window (axisCount p) ≡ false → (14 ≡ countCode bytes start N window out) × (out ≡ countBytes bytes start N window out)
-      unfolding countCode countCodeBy countBytes countBytesBy
-      count-off f = (rw (e, le-ltb (2 ^ 32) (start + N) h, f) refl, rw (e, le-ltb (2 ^ 32) (start + N) h, f) refl)
-
-      module _ (t : isWindowBytes window (axisCount p) ≡ true) where
-        pub count-no-room : length out < 16 → (13 ≡ countCode bytes start N window out) × (out ≡ countBytes bytes start N window out)
-        unfolding countCode countCodeBy countBytes countBytesBy
-        count-no-room r =
-            (rw (e, le-ltb (2 ^ 32) (start + N) h, t, lt-ltb (length out) 16 r) refl, rw (e, le-ltb (2 ^ 32) (start + N) h, t, lt-ltb (length out) 16 r) refl)
-
-        pub count-done : {new : List ℕ} → 16 ≤ length out → new ≡ wordBytes (answersOf p start N window) ++ drop 16 out
-            → (0 ≡ countCode bytes start N window out) × (new ≡ countBytes bytes start N window out)
-        unfolding countCode countCodeBy countBytes countBytesBy
-        count-done r put =
-            (rw (e, le-ltb (2 ^ 32) (start + N) h, t, le-ltb (length out) 16 r) refl, put ∙ rw (e, le-ltb (2 ^ 32) (start + N) h, t, le-ltb (length out) 16 r) refl)
+    pub count-done : {new : List ℕ} → 0 ≡ countRefusal start N (windowRefusal window (axisCount p)) (length out)
+        → new ≡ wordBytes (answersOf p start N window) ++ drop 16 out
+        → (0 ≡ countCode bytes start N window out) × (new ≡ countBytes bytes start N window out)
+    unfolding countCode countCodeBy countBytes countBytesBy
+    count-done is put = (rw e is, put ∙ rw (e, ← is) refl)

@@ -37,14 +37,20 @@ pointBytes plan index out = pointBytesBy (readPlan plan) index out
 unfoldable pub isWindowBytes : List ℕ → ℕ → Bool
 isWindowBytes window s = eqb (length window) (8 * s) && isWindow (windowIn window s) s
 
+unfoldable pub windowRefusal : List ℕ → ℕ → ℕ
+windowRefusal window s = choose (isWindowBytes window s) 0 14
+
 -- S and the bound
 unfoldable pub answersOf : Plan → ℕ → ℕ → List ℕ → List ℕ
 answersOf p start count window = insideCount p (windowIn window (axisCount p)) start count ∷ boundOf p count ∷ []
 
+-- of a run, the window's own refusal, and the room
+unfoldable pub countRefusal : ℕ → ℕ → ℕ → ℕ → ℕ
+countRefusal start count window room = choose (ltb (2 ^ 32) (start + count)) 11 (choose (eqb window 0) (choose (ltb room 16) 13 0) window)
+
 unfoldable pub countCodeBy : Reading → ℕ → ℕ → List ℕ → List ℕ → ℕ
 countCodeBy (refused n) start count window out = n
-countCodeBy (accepted p) start count window out =
-    choose (ltb (2 ^ 32) (start + count)) 11 (choose (isWindowBytes window (axisCount p)) (choose (ltb (length out) 16) 13 0) 14)
+countCodeBy (accepted p) start count window out = countRefusal start count (windowRefusal window (axisCount p)) (length out)
 
 unfoldable pub countCode : List ℕ → ℕ → ℕ → List ℕ → List ℕ → ℕ
 countCode plan start count window out = countCodeBy (readPlan plan) start count window out

@@ -11,7 +11,7 @@ ghost use Rattle.bits.specs.Stream.{overwrite};
 ghost use Rattle.plan.specs.Answer.{planAnswered, Accepted};
 ghost use Rattle.points.specs.Point.{pointOf};
 ghost use Rattle.hisowake.specs.Bytes.{bytesOf, wordBytes, quadAt, windowIn};
-ghost use Rattle.hisowake.specs.Calls.{pointCode, pointBytes, isWindowBytes, answersOf, countCode, countBytes};
+ghost use Rattle.hisowake.specs.Calls.{pointCode, pointBytes, isWindowBytes, windowRefusal, answersOf, countRefusal, countCode, countBytes};
 
 // Writes the 8 bytes of `x` to `out` from `at` on, most significant first.
 fn put_word(out: &mut [u8], at: usize, x: u64)
@@ -93,17 +93,20 @@ fn window_numbers(bytes: &[u8], axes: usize) -> [u64; 12]
     w
 }
 
-// Whether these bytes are a window of so many axes: 8 bytes an axis, and each u and q in its range.
-fn is_window(bytes: &[u8], axes: usize) -> bool
+// 0 where these bytes are a window of so many axes, 8 bytes an axis and each u and q in its range; else the number that turns it down.
+fn window_refusal(bytes: &[u8], axes: usize) -> u64
     requires { ⌜ axes ≤ 6 ⌝ }
-    ensures { λ r. ⌜ r ≡ isWindowBytes (now (bytes .entry)) axes ⌝ }
+    ensures { λ r. ⌜ r ≡ windowRefusal (now (bytes .entry)) axes ⌝ }
 {
     if bytes.len() != 8 * axes {
-        return false;
+        return refusal::BAD_WINDOW;
     }
     let w = window_numbers(bytes, axes);
     let end = 2 * axes;
-    window::is_window(&w[..end], axes)
+    if window::is_window(&w[..end], axes) {
+        return 0;
+    }
+    refusal::BAD_WINDOW
 }
 
 // Writes S and the bound of a run of a plan that the reader accepted.
@@ -129,6 +132,23 @@ fn put_count(out: &mut [u8], a: PlanRead, start: u64, count: u64, window: &[u8])
     put_words(out, &[inside, bound]);
 }
 
+// The number by which a count of an accepted plan is turned down, or 0: `window` is the window's own, `room` the length of the buffer.
+fn count_refusal(start: u64, count: u64, window: u64, room: usize) -> u64
+    ensures { λ r. ⌜ r ≡ countRefusal start count window room ⌝ }
+{
+    if 4294967296 < start {
+        refusal::OUT_OF_RANGE
+    } else if 4294967296 - start < count {
+        refusal::OUT_OF_RANGE
+    } else if window != 0 {
+        window
+    } else if room < 16 {
+        refusal::BUFFER_TOO_SMALL
+    } else {
+        0
+    }
+}
+
 // Writes S, how many points of the run are inside the window, and the bound of demand 3 to the front of `out`: 8 bytes each, most significant first.
 // The window has u and then q for each axis, 4 bytes each, likewise. Answers 0 or the refusal's number.
 #[no_mangle]
@@ -145,18 +165,10 @@ pub extern "C" fn hisowake_window_count(
     if a.code != 0 {
         return a.code;
     }
-    let fits = is_window(window, a.axes);
-    if 4294967296 < start {
-        return refusal::OUT_OF_RANGE;
-    }
-    if 4294967296 - start < count {
-        return refusal::OUT_OF_RANGE;
-    }
-    if !fits {
-        return refusal::BAD_WINDOW;
-    }
-    if out.len() < 16 {
-        return refusal::BUFFER_TOO_SMALL;
+    let w = window_refusal(window, a.axes);
+    let code = count_refusal(start, count, w, out.len());
+    if code != 0 {
+        return code;
     }
     put_count(out, a, start, count, window);
     0

@@ -1,17 +1,18 @@
--- One case law a return: the reading's answer, then the tests, say which. Assumes nothing.
+-- One case law a return: the reading's answer, then the refusal's number, say which. Assumes nothing.
 use mathlib.Core.Path.{_≡_, sym, ap, _∙_}
 use native.Mathlib.Omega.{arith}
 use borrow.Author.Needs.{needs}
-use borrow.Author.Tests.{not-true, not-false}
+use Prim.Native.Nat.{ℕ}
+use lib.ListN.{length}
 use Rattle.bits.proofs.StreamLaws.{below-of}
 use Rattle.plan.specs.Reading.{accepted, readPlan}
 use Rattle.plan.specs.Answer.{planAnswered, Accepted}
 use Rattle.points.specs.Point.{axisCount}
 use Rattle.writer.proofs.RoundTrip.{read-refused}
 use Rattle.state.proofs.StateLaws.{accepted-few}
-use Rattle.hisowake.specs.Calls.{isWindowBytes}
+use Rattle.hisowake.specs.Calls.{windowRefusal, countRefusal}
 use Rattle.hisowake.proofs.CallLaws.{answer-accepted, accepted-axes}
-use Rattle.hisowake.proofs.CountLaws.{count-refused, count-out, count-off, count-no-room, count-done}
+use Rattle.hisowake.proofs.CountLaws.{refusal-bytes, refusal-zero, count-refused, count-turned, count-done}
 use Rattle.hisowake.proofs.hisowake_window_count.Statement.{statement}
 use Rattle.hisowake.proofs.hisowake_window_count.Tie as tie
 
@@ -24,12 +25,18 @@ known c =
     answer-accepted _ _ (below-of 256 _ (λ i. omega (arith, r .before .before .before .shared-slice-known .given i))) (r .read-plan .ensures) (omega arith)
 
 -- the window is tested for as many axes as the plan has
-tested : (c : tie.After-is-window)
-    → let r = c .before .before .before in
-    isWindowBytes (r .before .before .before .before .args .window .now) (axisCount (planAnswered (r .read-plan .result))) ≡ c .is-window .result
+tested : (c : tie.After-count-refusal)
+    → let r = c .before .before .before .before in
+    let a = r .before .before .before .before .args in
+    c .count-refusal .result ≡ countRefusal (a .start) (a .count) (windowRefusal (a .window .now) (axisCount (planAnswered (r .read-plan .result)))) (length (a .out .now))
 tested c =
-    let r = c .before .before .before in
-    ap (isWindowBytes (r .before .before .before .before .args .window .now)) (sym (accepted-axes (known (c .before) .1))) ∙ sym (c .is-window .ensures)
+    let r = c .before .before .before .before in
+    let a = r .before .before .before .before .args in
+    c .count-refusal .ensures
+    ∙ ap (λ (v : ℕ). countRefusal (a .start) (a .count) v (length (a .out .now))) (c .before .window-refusal .ensures ∙ ap (windowRefusal (a .window .now)) (accepted-axes (known (c .before .before) .1)))
+
+passed : (c : tie.Else2) → c .before .count-refusal .result ≡ 0
+passed c = omega arith
 
 read-plan-requires : tie.Need-read-plan-requires
 read-plan-requires c κs = search needs
@@ -40,40 +47,31 @@ returns c =
     let a = r .before .before .before .before .args in
     count-refused (a .plan .now) (a .start) (a .count) (a .window .now) (a .out .now) _ (read-refused _ _ (r .read-plan .ensures) (λ e. omega arith))
 
-is-window-requires : tie.Need-is-window-requires
-is-window-requires c κs = omega (arith, accepted-few (known c .1))
+window-refusal-requires : tie.Need-window-refusal-requires
+window-refusal-requires c κs = omega (arith, accepted-few (known c .1))
+
+count-refusal-requires : tie.Need-count-refusal-requires
+count-refusal-requires c κs = search needs
 
 returns-2 : tie.Need-returns-2
 returns-2 c =
-    let a = c .before .before .before .before .before .before .before .before .args in
-    count-out (a .plan .now) (a .start) (a .count) (a .window .now) (a .out .now) _ (known (c .before .before) .0) (omega arith)
-
-returns-3 : tie.Need-returns-3
-returns-3 c =
     let a = c .before .before .before .before .before .before .before .before .before .args in
-    count-out (a .plan .now) (a .start) (a .count) (a .window .now) (a .out .now) _ (known (c .before .before .before) .0) (omega arith)
-
-returns-4 : tie.Need-returns-4
-returns-4 c =
-    let a = c .before .before .before .before .before .before .before .before .before .before .args in
-    count-off (a .plan .now) (a .start) (a .count) (a .window .now) (a .out .now) _ (known (c .before .before .before .before) .0) (omega arith) (tested (c .before .before .before) ∙ not-true _ (c .if4 .taken))
-
-returns-5 : tie.Need-returns-5
-returns-5 c =
-    let a = c .before .before .before .before .before .before .before .before .before .before .before .args in
-    count-no-room (a .plan .now) (a .start) (a .count) (a .window .now) (a .out .now) _ (known (c .before .before .before .before .before) .0) (omega arith) (tested (c .before .before .before .before) ∙ not-false _ (c .before .if4 .left)) (omega arith)
+    count-turned (a .plan .now) (a .start) (a .count) (a .window .now) (a .out .now) _ (known (c .before .before .before) .0) (c .before .count-refusal .result) (tested (c .before)) (λ e. omega arith)
 
 put-count-requires : tie.Need-put-count-requires
 put-count-requires c κs =
-    (known (c .before .before .before .before .before .before) .1, omega arith, sym (c .before .before .before .before .before .is-window .ensures) ∙ not-false _ (c .before .before .if4 .left), omega arith)
+    let r = c .before .before in
+    let z = refusal-zero _ _ _ _ (sym (r .count-refusal .ensures) ∙ passed (c .before)) in
+    (known (r .before .before) .1, omega (arith, z .0), refusal-bytes _ _ (sym (r .before .window-refusal .ensures) ∙ z .1), z .2)
 
 same-length : tie.Need-same-length
 same-length c = search needs
 
-returns-6 : tie.Need-returns-6
-returns-6 c =
-    let a = c .before .before .before .before .before .before .before .before .before .before .before .before .before .before .before .args in
-    count-done (a .plan .now) (a .start) (a .count) (a .window .now) (a .out .now) _ (known (c .before .before .before .before .before .before .before .before .before) .0) (omega arith) (tested (c .before .before .before .before .before .before .before .before) ∙ not-false _ (c .before .before .before .before .before .if4 .left)) (omega arith) (c .before .before .put-count .ensures)
+returns-3 : tie.Need-returns-3
+returns-3 c =
+    let a = c .before .before .before .before .before .before .before .before .before .before .before .before .before .args in
+    let r = c .before .before .before .before .before in
+    count-done (a .plan .now) (a .start) (a .count) (a .window .now) (a .out .now) _ (known (c .before .before .before .before .before .before .before) .0) (sym (passed (c .before .before .before .before)) ∙ tested r) (c .before .before .put-count .ensures)
 
 pub hisowake-window-count-spec : {M : Type 1} → statement M
 hisowake-window-count-spec =
@@ -81,11 +79,9 @@ hisowake-window-count-spec =
     (tie.spec
     read-plan-requires
     returns
-    is-window-requires
+    window-refusal-requires
+    count-refusal-requires
     returns-2
-    returns-3
-    returns-4
-    returns-5
     put-count-requires
     same-length
-    returns-6)
+    returns-3)

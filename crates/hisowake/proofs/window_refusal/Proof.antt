@@ -7,9 +7,9 @@ use borrow.Author.Needs.{needs}
 use lib.ListN.{length, take}
 use Rattle.window.specs.Counting.{isWindow}
 use Rattle.hisowake.specs.Bytes.{windowIn}
-use Rattle.hisowake.proofs.CountLaws.{window-length, window-front, bytes-long, bytes-by}
-use Rattle.hisowake.proofs.is_window.Statement.{statement}
-use Rattle.hisowake.proofs.is_window.Tie as tie
+use Rattle.hisowake.proofs.CountLaws.{window-length, window-front, bytes-long, bytes-off, bytes-right}
+use Rattle.hisowake.proofs.window_refusal.Statement.{statement}
+use Rattle.hisowake.proofs.window_refusal.Tie as tie
 
 numbers : (c : tie.After-window-numbers)
     → let a = c .before .before .before .args in take (2 * a .axes) (c .window-numbers .result) ≡ windowIn (a .bytes .now) (a .axes)
@@ -38,13 +38,21 @@ slice-aggregate-is-window c = sym (ap length (numbers (c .before)) ∙ window-le
 is-window-requires : tie.Need-is-window-requires
 is-window-requires c κs = search needs
 
-returns-2 : tie.Need-returns-2
-returns-2 c =
+-- the test of the bytes' numbers
+tested : (c : tie.After-is-window)
+    → let a = c .before .before .before .before .before .args in c .is-window .result ≡ isWindow (windowIn (a .bytes .now) (a .axes)) (a .axes)
+tested c =
     let n = c .before .before in
-    c .is-window .ensures ∙ ap (λ (w : List ℕ). isWindow w (n .before .before .before .args .axes)) (numbers n) ∙ bytes-by _ _ (omega arith)
+    c .is-window .ensures ∙ ap (λ (w : List ℕ). isWindow w (n .before .before .before .args .axes)) (numbers n)
 
-pub is-window-spec : {M : Type 1} → statement M
-is-window-spec =
+returns-2 : tie.Need-returns-2
+returns-2 c = bytes-right _ _ (omega arith) (sym (tested (c .before)) ∙ c .if2 .taken)
+
+returns-3 : tie.Need-returns-3
+returns-3 c = bytes-off _ _ (omega arith) (sym (tested (c .before)) ∙ c .if2 .left)
+
+pub window-refusal-spec : {M : Type 1} → statement M
+window-refusal-spec =
     tie.close
     (tie.spec
     mul-if1
@@ -54,4 +62,5 @@ is-window-spec =
     array-share-prefix-w
     slice-aggregate-is-window
     is-window-requires
-    returns-2)
+    returns-2
+    returns-3)
