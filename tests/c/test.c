@@ -1,80 +1,24 @@
-// The calls of hisowake.h from C: reference points, refusals and their order, and that nothing beyond a buffer is read or written.
-// Each buffer ends at a page that cannot be touched and has guard bytes in front.
+// The calls of hisowake.h from C: reference points and counts, refusals and their order, that nothing beyond a buffer is read or written, and
+// the stack. Larger runs are compared with reference.h.
 #define _DEFAULT_SOURCE
-#include "hisowake.h"
+#include "guard.h"
+#include "reference.h"
 
-#include <stdio.h>
-#include <string.h>
-#include <sys/mman.h>
 #include <ucontext.h>
-#include <unistd.h>
 
-enum { FILL = 0xA5, OUT_MAX = 64, STACK = 8192 };
-
-static int checks, failures;
-
-static void check(int holds, const char *what, unsigned long long number) {
-    checks++;
-    if (!holds) {
-        failures++;
-        printf("FAILED: %s, %llu\n", what, number);
-    }
-}
-
-// ---- buffers
-
-// A page, all guard bytes, with a page after it that cannot be touched.
-static uint8_t *guarded_page(void) {
-    size_t page = (size_t)sysconf(_SC_PAGESIZE);
-    uint8_t *p = mmap(NULL, 2 * page, PROT_READ | PROT_WRITE, MAP_PRIVATE | MAP_ANONYMOUS, -1, 0);
-    if (p == MAP_FAILED || mprotect(p + page, page, PROT_NONE) != 0) {
-        perror("mmap");
-        _exit(1);
-    }
-    memset(p, FILL, page);
-    return p;
-}
-
-static uint8_t *plan_page, *out_page, *plan_end, *out_end;
-
-static int all_fill(const uint8_t *from, const uint8_t *to) {
-    for (; from < to; from++)
-        if (*from != FILL)
-            return 0;
-    return 1;
-}
-
-// ---- one call
-
-static uint64_t word_at(const uint8_t *bytes) {
-    uint64_t x = 0;
-    for (int i = 0; i < 8; i++)
-        x = x << 8 | bytes[i];
-    return x;
-}
-
-// Calls with buffers of exactly these lengths, a null pointer for length 0, and compares the answer and every byte of both pages.
-static void point(const char *what, const uint8_t *plan, size_t plan_len, uint64_t index, size_t out_len, uint64_t code, int axes,
-                  const uint64_t *numerators) {
-    uint8_t *in = plan_len ? plan_end - plan_len : NULL;
-    uint8_t *out = out_len ? out_end - out_len : NULL;
-    memset(plan_page, FILL, (size_t)(plan_end - plan_page));
-    memset(out_page, FILL, (size_t)(out_end - out_page));
-    if (plan_len)
-        memcpy(in, plan, plan_len);
-    check(hisowake_point(in, plan_len, index, out, out_len) == code, what, index);
-    check(all_fill(plan_page, plan_end - plan_len) && (plan_len == 0 || memcmp(in, plan, plan_len) == 0), "the plan is only read", index);
-    size_t written = code == 0 ? 8 * (size_t)axes : 0;
-    for (int i = 0; code == 0 && i < axes; i++)
-        check(word_at(out + 8 * i) == numerators[i], what, index);
-    check(all_fill(out_page, out_end - out_len) && all_fill(out_end - out_len + written, out_end), "nothing beyond is touched", index);
-}
+enum { PLAN_MAX = 71, OUT_MAX = 64, STACK = 65536, POINT_STACK = 8192, COUNT_STACK = 24576, SEED = 20260517 };
 
 #define BYTES(...) (const uint8_t[]){__VA_ARGS__}, sizeof((const uint8_t[]){__VA_ARGS__})
 #define NUMERATORS(...) sizeof((const uint64_t[]){__VA_ARGS__}) / 8, (const uint64_t[]){__VA_ARGS__}
 #define NONE 0, NULL
 
-static const uint64_t LAST = 4294967295u;
+// the bytes of a number of 4 bytes, and of a cut u / q
+#define FOUR(x) (uint8_t)((x) >> 24), (uint8_t)((x) >> 16), (uint8_t)((x) >> 8), (uint8_t)(x)
+#define CUT(u, q) FOUR(u), FOUR(q)
+
+static const uint64_t LAST = 4294967295u, END = 4294967296u;
+
+// ---- points
 
 static void reference_points(void) {
     point("R1", BYTES(0x08, 0x10), 17, 8, 0, NUMERATORS(9685512225u));
@@ -120,16 +64,74 @@ static void six_axes(void) {
     point("index 0", SOBOL_6, sizeof SOBOL_6, 0, 48, 0, NUMERATORS(0, 0, 0, 0, 0, 0));
 }
 
+// ---- counts
+
+// a window for up to six axes by its front; with one cut too many
+static const uint8_t WINDOW[] = {CUT(1, 2), CUT(2, 3), CUT(3, 4), CUT(4, 5), CUT(1, 1), CUT(16777215, 16777216), CUT(1, 2)};
+
+#define R7 BYTES(0x10, 0x08, 0x10)
+#define R5 BYTES(0x89, 0xBF, 0x80)
+
+static void reference_counts(void) {
+    count("R8", R7, 0, 6, BYTES(CUT(1, 2), CUT(1, 3)), 16, 0, 1, 20);
+    count("a longer buffer", R7, 0, 6, BYTES(CUT(1, 2), CUT(1, 3)), OUT_MAX, 0, 1, 20);
+    count("K from the count, not from the last index", R7, END - 6, 6, BYTES(CUT(1, 2), CUT(1, 3)), 16, 0, 1, 20);
+    // index 1 is (1/2, 1/3)
+    count("a point on its first cut", R7, 1, 1, BYTES(CUT(1, 2), CUT(1, 1)), 16, 0, 0, 6);
+    count("a point on its second cut", R7, 1, 1, BYTES(CUT(1, 1), CUT(1, 3)), 16, 0, 0, 6);
+    count("a point on both cuts", R7, 1, 1, BYTES(CUT(8388608, 16777216), CUT(5592405, 16777215)), 16, 0, 0, 6);
+    count("a point inside", R7, 1, 1, BYTES(CUT(8388609, 16777216), CUT(5592406, 16777216)), 16, 0, 1, 6);
+    // 0, 1/2, 1/4, 3/4
+    for (uint32_t k = 0; k <= 4; k++)
+        count("Sobol's points on their cuts", R5, 0, 4, BYTES(CUT(k, 4)), 16, 0, k, 0);
+}
+
+// The first b^j points of an axis are the multiples of b^-j, so k of them are below k / b^j.
+static void multiples(void) {
+    for (uint32_t k = 0; k <= 125; k++) {
+        count("base 5", BYTES(0x08, 0x20), 0, 125, BYTES(CUT(k, 125)), 16, 0, k, 17);
+        count("permuted base 5", BYTES(0x48, 0x20), 0, 125, BYTES(CUT(k, 125)), 16, 0, k, 17);
+        count("x^3 + x + 1", R5, 0, 128, BYTES(CUT(k, 128)), 16, 0, k, 0);
+    }
+    for (uint32_t k = 1; k <= 1048576; k *= 2) {
+        count("base 2", BYTES(0x08, 0x08), 0, 1048576, BYTES(CUT(k, 1048576)), 16, 0, k, 22);
+        count("x^3 + x + 1", R5, 0, 1048576, BYTES(CUT(k, 1048576)), 16, 0, k, 0);
+    }
+}
+
+static void none(const char *what, const uint8_t *plan, size_t plan_len, uint64_t bound) {
+    static const uint64_t start[] = {0, 1, 4294967295u, 4294967296u};
+    for (int i = 0; i < 4; i++)
+        count(what, plan, plan_len, start[i], 0, WINDOW, 48, 16, 0, 0, bound);
+}
+
+static void edges(void) {
+    none("count 0, Halton", HALTON_6, sizeof HALTON_6, 1);
+    none("count 0, permuted", PERMUTED_6, sizeof PERMUTED_6, 1);
+    none("count 0, Sobol", SOBOL_6, sizeof SOBOL_6, 0);
+    count("the last index", BYTES(0x08, 0x08), LAST, 1, BYTES(CUT(1, 1)), 16, 0, 1, 2);
+    count("the last index", BYTES(0x08, 0x08), LAST, 1, BYTES(CUT(16777215, 16777216)), 16, 0, 0, 2);
+    count("base 256, up to the end", BYTES(0x0F, 0xF8), END - 65536, 65536, BYTES(CUT(1, 1)), 16, 0, 65536, 766);
+}
+
 // ---- refusals
 
-// a plan's refusal comes first, whatever the index and the buffer are
+#define REFUSED(code) code, 0, 0
+
+// a plan's refusal comes first, whatever else is wrong: nothing, the range, the window, the buffer, all
 static void refused_plan(const char *what, const uint8_t *plan, size_t plan_len, uint64_t code) {
     point(what, plan, plan_len, 0, OUT_MAX, code, NONE);
     point(what, plan, plan_len, LAST + 1, OUT_MAX, code, NONE);
     point(what, plan, plan_len, UINT64_MAX, 0, code, NONE);
+    for (size_t window_len = 8; window_len <= 48; window_len += 8)
+        count(what, plan, plan_len, 0, 1, WINDOW, window_len, 16, REFUSED(code));
+    count(what, plan, plan_len, LAST, 2, WINDOW, 8, 16, REFUSED(code));
+    count(what, plan, plan_len, 0, 1, WINDOW, 7, 16, REFUSED(code));
+    count(what, plan, plan_len, 0, 1, WINDOW, 8, 15, REFUSED(code));
+    count(what, plan, plan_len, UINT64_MAX, UINT64_MAX, NULL, 0, 0, REFUSED(code));
 }
 
-static void refusals(void) {
+static void refused_plans(void) {
     refused_plan("1: no bytes", NULL, 0, HISOWAKE_TRUNCATED);
     refused_plan("1: a base cut off", BYTES(0x08), HISOWAKE_TRUNCATED);
     for (size_t n = 0; n < sizeof LONGEST; n++)
@@ -145,7 +147,9 @@ static void refusals(void) {
     refused_plan("9: degree 0 twice", BYTES(0x90, 0x00), HISOWAKE_REPEATED_POLYNOMIAL);
     refused_plan("10: a filling bit", BYTES(0x10, 0x08, 0x11), HISOWAKE_TRAILING_DATA);
     refused_plan("10: a byte follows", BYTES(0x08, 0x08, 0x00), HISOWAKE_TRAILING_DATA);
+}
 
+static void refused_points(void) {
     static const uint64_t beyond[] = {4294967296u, 4294967297u, UINT64_MAX};
     for (int i = 0; i < 3; i++) {
         point("11", SOBOL_6, sizeof SOBOL_6, beyond[i], OUT_MAX, HISOWAKE_OUT_OF_RANGE, NONE);
@@ -157,44 +161,223 @@ static void refusals(void) {
     }
 }
 
+_Static_assert(HISOWAKE_OUT_OF_RANGE == 11 && HISOWAKE_BUFFER_TOO_SMALL == 13 && HISOWAKE_BAD_WINDOW == 14, "the names' numbers");
+
+// 11 before 14 before 13, by twos and all at once
+static void refused_runs(void) {
+    static const uint64_t beyond[][2] = {
+        {4294967296u, 1},          {4294967295u, 2},          {4294967290u, 7},          {0, 4294967297u},
+        {4294967297u, 0},          {1, 4294967296u},          {UINT64_MAX, 0},           {UINT64_MAX, 1},
+        {UINT64_MAX, 2},           {1, UINT64_MAX},           {2, UINT64_MAX},           {UINT64_MAX, UINT64_MAX},
+        {4294967297u, UINT64_MAX - 4294967296u},              {1ull << 63, 1ull << 63},  {UINT64_MAX - 5, 4294967296u},
+    };
+    for (size_t i = 0; i < sizeof beyond / sizeof beyond[0]; i++) {
+        uint64_t start = beyond[i][0], n = beyond[i][1];
+        count("11", SOBOL_6, sizeof SOBOL_6, start, n, WINDOW, 48, 16, REFUSED(11));
+        count("11 before 14", SOBOL_6, sizeof SOBOL_6, start, n, WINDOW, 47, 16, REFUSED(11));
+        count("11 before 13", SOBOL_6, sizeof SOBOL_6, start, n, WINDOW, 48, 15, REFUSED(11));
+        count("11 before 14 and 13", HALTON_6, sizeof HALTON_6, start, n, NULL, 0, 0, REFUSED(11));
+    }
+    // every index is in range
+    count("the whole range, 14", HALTON_6, sizeof HALTON_6, 0, END, WINDOW, 40, 16, REFUSED(14));
+    count("the whole range, 13", HALTON_6, sizeof HALTON_6, 0, END, WINDOW, 48, 0, REFUSED(13));
+}
+
+static void bad_cut(struct cut bad) {
+    for (int axis = 0; axis < 6; axis++) {
+        struct cut cut[6] = {{1, 2}, {0, 1}, {16777216, 16777216}, {1, 1}, {5, 16777216}, {2, 3}};
+        uint8_t window[48];
+        cut[axis] = bad;
+        window_bytes(cut, 6, window);
+        count("14", HALTON_6, sizeof HALTON_6, 0, 10, window, 48, 16, REFUSED(14));
+        count("14", SOBOL_6, sizeof SOBOL_6, END, 0, window, 48, OUT_MAX, REFUSED(14));
+        count("14 before 13", PERMUTED_6, sizeof PERMUTED_6, LAST, 1, window, 48, 15, REFUSED(14));
+        count("14 before 13", SOBOL_6, sizeof SOBOL_6, 0, 10, window, 48, 0, REFUSED(14));
+    }
+}
+
+static void refused_windows(void) {
+    for (uint8_t axes = 1; axes <= 6; axes++) {
+        // bases 2, 3, 5, 7, 11 and 13, as far as there are axes
+        uint8_t plan[7];
+        memcpy(plan, HALTON_6, 7);
+        plan[0] = (uint8_t)(axes << 3);
+        for (size_t n = 0; n <= sizeof WINDOW; n++)
+            if (n != 8u * axes) {
+                count("14: a length", plan, axes + 1u, 0, 6, WINDOW, n, 16, REFUSED(14));
+                count("14: a length, before 13", plan, axes + 1u, 0, 6, WINDOW, n, 0, REFUSED(14));
+            }
+    }
+    static const struct cut bad[] = {{0, 0},          {1, 0},          {0, 16777217},          {16777216, 16777217}, {0, 33554432},
+                                     {0, UINT32_MAX}, {2, 1},          {16777217, 16777216},   {8, 7},               {UINT32_MAX, 16777216},
+                                     {UINT32_MAX, 1}, {UINT32_MAX, 0}, {UINT32_MAX, UINT32_MAX}};
+    for (size_t i = 0; i < sizeof bad / sizeof bad[0]; i++)
+        bad_cut(bad[i]);
+    for (size_t n = 0; n < 16; n++) {
+        count("13", HALTON_6, sizeof HALTON_6, 0, 10, WINDOW, 48, n, REFUSED(13));
+        count("13", PERMUTED_6, sizeof PERMUTED_6, LAST, 1, WINDOW, 48, n, REFUSED(13));
+        count("13", SOBOL_6, sizeof SOBOL_6, END, 0, WINDOW, 48, n, REFUSED(13));
+    }
+}
+
+// ---- the reference
+
+static uint64_t random_state = SEED;
+
+// A number below `below`: splitmix64.
+static uint64_t random_below(uint64_t below) {
+    uint64_t x = random_state += 0x9E3779B97F4A7C15u;
+    x = (x ^ x >> 30) * 0xBF58476D1CE4E5B9u;
+    x = (x ^ x >> 27) * 0x94D049BB133111EBu;
+    return (x ^ x >> 31) % below;
+}
+
+// Cuts of all sizes of q, every other q a power of the base, so that points sit on cuts; the cuts of every other window are near 1, so that
+// many points are inside.
+static void random_cuts(const struct plan *p, struct cut *cut) {
+    int wide = (int)random_below(2);
+    for (int i = 0; i < p->axes; i++) {
+        uint64_t q = 1 + random_below(1u << (1 + random_below(24))), b = p->family == SOBOL ? 2 : p->axis[i].base;
+        if (random_below(2))
+            for (q = b; q * b <= 16777216 && random_below(3); q *= b)
+                ;
+        cut[i].q = (uint32_t)q;
+        cut[i].u = (uint32_t)(wide ? q - random_below(q / 4 + 1) : random_below(q + 1));
+    }
+}
+
+// The reference against itself and against plans whose bytes are known.
+static void reference_itself(void) {
+    static const struct {
+        int plan;
+        const uint8_t *bytes;
+        size_t len;
+    } known[] = {{0, HALTON_6, sizeof HALTON_6}, {2, PERMUTED_6, sizeof PERMUTED_6}, {5, SOBOL_6, sizeof SOBOL_6}, {6, LONGEST, sizeof LONGEST}};
+    for (int i = 0; i < 4; i++) {
+        uint8_t bytes[PLAN_MAX] = {0};
+        check(plan_bytes(&plans[known[i].plan], bytes) == known[i].len && memcmp(bytes, known[i].bytes, known[i].len) == 0, "plan bytes", 0);
+    }
+    for (int i = 0; i < PLANS; i++)
+        if (plans[i].family == SOBOL) {
+            uint64_t x[6] = {0}, y[6], n = 0;
+            for (point_of(&plans[i], n, y); n < 100000 && memcmp(x, y, sizeof x) == 0; point_of(&plans[i], n, y))
+                sobol_step(&plans[i], n++, x);
+            check(n == 100000, "steps and jumps of the reference", n);
+        }
+}
+
+static void compare_point(const struct plan *p, const uint8_t *plan, size_t plan_len, uint64_t index) {
+    uint64_t x[6];
+    point_of(p, index, x);
+    point("a point of the reference", plan, plan_len, index, 8 * (size_t)p->axes, 0, p->axes, x);
+}
+
+static void compare_count(const struct plan *p, const uint8_t *plan, size_t plan_len, uint64_t start, uint64_t n, const struct cut *cut) {
+    uint8_t window[48];
+    size_t window_len = window_bytes(cut, p->axes, window);
+    count("a count of the reference", plan, plan_len, start, n, window, window_len, 16 + random_below(2) * 24, 0, inside_count(p, start, n, cut),
+          bound_of(p, n));
+}
+
+// Points of all sizes of index, and counts of runs in one part of 1,024 points and in some, from near 0, from the midst and up to the end.
+static void compare(const struct plan *p) {
+    static const uint64_t sizes[] = {1, 2, 100, 1023, 1024, 1025, 2048, 3000};
+    uint8_t plan[PLAN_MAX] = {0};
+    size_t plan_len = plan_bytes(p, plan);
+    for (int i = 0; i < 100; i++) {
+        compare_point(p, plan, plan_len, random_below(1ull << (1 + random_below(32))));
+        compare_point(p, plan, plan_len, LAST - random_below(1000));
+    }
+    for (size_t i = 0; i < sizeof sizes / sizeof sizes[0]; i++) {
+        uint64_t n = sizes[i];
+        struct cut cut[6], all[6];
+        const uint64_t start[] = {0, random_below(5000), 16777216 + random_below(4261412864u), END - n};
+        for (int j = 0; j < 4; j++) {
+            random_cuts(p, cut);
+            compare_count(p, plan, plan_len, start[j], n, cut);
+        }
+        // u = q on every axis counts all, u = 0 on one axis none
+        uint8_t window[48];
+        for (int k = 0; k < p->axes; k++)
+            all[k].u = all[k].q = 1 + (uint32_t)random_below(16777216);
+        size_t window_len = window_bytes(all, p->axes, window);
+        count("u = q", plan, plan_len, start[i % 4], n, window, window_len, 16, 0, n, bound_of(p, n));
+        all[random_below((uint64_t)p->axes)].u = 0;
+        window_bytes(all, p->axes, window);
+        count("u = 0", plan, plan_len, start[i % 4], n, window, window_len, 16, 0, 0, bound_of(p, n));
+    }
+}
+
 // ---- the stack
 
-static uint8_t stack[STACK];
+static uint8_t stack[STACK], stack_plan[PLAN_MAX], stack_out[48];
+static size_t stack_plan_len, stack_window_len;
 static ucontext_t back, there;
-static const uint8_t *stack_plan;
-static size_t stack_plan_len;
-static uint8_t stack_out[48];
 
-static void on_stack(void) { hisowake_point(stack_plan, stack_plan_len, LAST, stack_out, sizeof stack_out); }
+static void point_on_stack(void) { hisowake_point(stack_plan, stack_plan_len, LAST, stack_out, sizeof stack_out); }
 
-// Runs a call on a stack of 8 KiB; its deepest 256 bytes stay as they were.
-static void stack_of(const char *what, const uint8_t *plan, size_t plan_len) {
+static void count_on_stack(void) {
+    hisowake_window_count(stack_plan, stack_plan_len, END - 1500, 1500, WINDOW, stack_window_len, stack_out, sizeof stack_out);
+}
+
+// Runs a call on a stack of this size, whose deepest 256 bytes and all below have to stay as they were. Gives how many bytes it took.
+static size_t stack_of(void (*call)(void), size_t size) {
+    uint8_t *deepest = stack + STACK - size;
     memset(stack, FILL, STACK);
-    stack_plan = plan;
-    stack_plan_len = plan_len;
     getcontext(&there);
-    there.uc_stack.ss_sp = stack;
-    there.uc_stack.ss_size = STACK;
+    there.uc_stack.ss_sp = deepest;
+    there.uc_stack.ss_size = size;
     there.uc_link = &back;
-    makecontext(&there, on_stack, 0);
+    makecontext(&there, call, 0);
     swapcontext(&back, &there);
-    check(all_fill(stack, stack + 256), what, STACK);
+    check(all_fill(stack, deepest + 256), "stack", size);
+    size_t kept = 0;
+    while (kept < STACK && stack[kept] == FILL)
+        kept++;
+    return STACK - kept;
+}
+
+static void stacks(void) {
+    size_t point_most = 0, count_most = 0;
+    for (int i = 0; i < PLANS; i++)
+        for (int axes = 1; axes <= 6; axes++) {
+            struct plan p = last_axes(&plans[i], axes);
+            memset(stack_plan, 0, sizeof stack_plan);
+            stack_plan_len = plan_bytes(&p, stack_plan);
+            stack_window_len = 8 * (size_t)axes;
+            size_t took = stack_of(point_on_stack, POINT_STACK);
+            point_most = took > point_most ? took : point_most;
+            took = stack_of(count_on_stack, COUNT_STACK);
+            count_most = took > count_most ? took : count_most;
+        }
+    printf("C: stack: the point %zu bytes, the count %zu bytes\n", point_most, count_most);
 }
 
 int main(void) {
-    size_t page = (size_t)sysconf(_SC_PAGESIZE);
-    plan_page = guarded_page();
-    out_page = guarded_page();
-    plan_end = plan_page + page;
-    out_end = out_page + page;
+    setvbuf(stdout, NULL, _IOLBF, 0);
+    plan_buffer = new_buffer();
+    window_buffer = new_buffer();
+    out_buffer = new_buffer();
+    for (int i = 0; i < PLANS; i++)
+        direction_numbers(&plans[i]);
 
     reference_points();
     six_axes();
-    refusals();
-    stack_of("stack, Halton", HALTON_6, sizeof HALTON_6);
-    stack_of("stack, permuted", PERMUTED_6, sizeof PERMUTED_6);
-    stack_of("stack, Sobol", LONGEST, sizeof LONGEST);
+    reference_counts();
+    multiples();
+    edges();
+    refused_plans();
+    refused_points();
+    refused_runs();
+    refused_windows();
+    reference_itself();
+    for (int i = 0; i < PLANS; i++)
+        for (int axes = 1; axes <= 6; axes++) {
+            struct plan p = last_axes(&plans[i], axes);
+            compare(&p);
+        }
+    stacks();
 
-    printf("C: %d checks, %d failed\n", checks, failures);
+    printf("C: %d checks, %d failed; seed %d\n", checks, failures, SEED);
     return failures != 0;
 }

@@ -1,7 +1,7 @@
 -- The window count: windows out of bytes, what putting S and the bound leaves, and each answer from the tests that lead to it. Assumes nothing.
 use mathlib.Core.Path.{_≡_, refl, _∙_}
-use mathlib.Core.Bool.{Bool, true, false, and-eq-true-iff}
-use mathlib.Core.Logic.{_⊎_, inl, inr, ⊎-elim}
+use mathlib.Core.Bool.{true, false, and-eq-true-iff}
+use mathlib.Core.Logic.{⊎-elim}
 use mathlib.Core.List.{List, [], _∷_, _++_}
 use Prim.Native.Nat.{ℕ, _+_, _*_, _^_, _<_, _≤_}
 use native.Mathlib.Omega.{arith}
@@ -11,7 +11,7 @@ use borrow.Author.Tests.{lt-ltb, le-ltb, eq-eqb, ne-eqb, eqb-true}
 use Rattle.numbers.specs.Choice.{choose}
 use Rattle.numbers.specs.Count.{count}
 use Rattle.numbers.specs.Listed.{padded}
-use Rattle.numbers.proofs.Cases.{lt-or-ge, eq-or-ne}
+use Rattle.numbers.proofs.Cases.{lt-or-ge, eq-or-ne, true-or-false}
 use Rattle.numbers.proofs.ListedLaws.{listed-length, padded-take}
 use Rattle.bits.specs.Stream.{overwrite}
 use Rattle.plan.specs.Plan.{Plan, Valid}
@@ -24,10 +24,6 @@ use Rattle.window.proofs.PlanLaws.{count-held, bound-held}
 use Rattle.hisowake.specs.Bytes.{wordBytes, quadAt, windowIn}
 use Rattle.hisowake.specs.Calls.{isWindowBytes, windowRefusal, answersOf, countRefusal, countCodeBy, countCode, countBytesBy, countBytes}
 use Rattle.hisowake.proofs.ByteLaws.{length-words}
-
-either : (b : Bool) → (b ≡ true) ⊎ (b ≡ false)
-either true = inl refl
-either false = inr refl
 
 -- ---- windows out of bytes
 
@@ -55,7 +51,7 @@ module _ (bytes : List ℕ) (s : ℕ) where
 
   pub refusal-bytes : windowRefusal bytes s ≡ 0 → isWindowBytes bytes s ≡ true
   unfolding windowRefusal
-  refusal-bytes z = ⊎-elim (λ t. t) (λ f. absurd (omega (arith, off f))) (either (isWindowBytes bytes s))
+  refusal-bytes z = ⊎-elim (λ t. t) (λ f. absurd (omega (arith, off f))) (true-or-false (isWindowBytes bytes s))
     where
       off : isWindowBytes bytes s ≡ false → choose (isWindowBytes bytes s) 0 14 ≡ 14
       off f = rw f refl

@@ -1,15 +1,15 @@
 -- The C window count is a reading, an opening and a count: it answers the first number that these give, and leaves the bytes of what the count
 -- answers. Assumes nothing.
 use mathlib.Core.Path.{_≡_, refl}
-use mathlib.Core.Bool.{Bool, true, false}
-use mathlib.Core.Logic.{_⊎_, inl, inr, ⊎-elim}
+use mathlib.Core.Bool.{true, false}
+use mathlib.Core.Logic.{⊎-elim}
 use mathlib.Core.List.{List, [], _∷_, _++_}
 use Prim.Native.Nat.{ℕ, _+_, _*_, _^_, _≤_, _<_}
 use lib.Dec.{eqb, ltb}
 use lib.ListN.{length, drop}
 use borrow.Author.Tests.{lt-ltb, le-ltb, eq-eqb, ne-eqb}
 use Rattle.numbers.specs.Choice.{choose}
-use Rattle.numbers.proofs.Cases.{lt-or-ge}
+use Rattle.numbers.proofs.Cases.{lt-or-ge, true-or-false}
 use Rattle.bits.specs.Stream.{AllBelow}
 use Rattle.plan.specs.Plan.{Plan}
 use Rattle.plan.specs.Reading.{refused, accepted, readPlan}
@@ -31,10 +31,6 @@ use Rattle.hisowake.specs.Calls.{isWindowBytes, windowRefusal, answersOf, count
 -- the first number of the reading, the opening, the count and the room that is not 0
 abbrev pub firstOf : ℕ → ℕ → ℕ → ℕ → ℕ
 firstOf reading opening counting room = choose (eqb reading 0) (choose (eqb opening 0) (choose (eqb counting 0) room counting) opening) reading
-
-either : (b : Bool) → (b ≡ true) ⊎ (b ≡ false)
-either true = inl refl
-either false = inr refl
 
 module _ (plan : List ℕ) (below : AllBelow 256 plan) (p : Plan) (e : readPlan plan ≡ accepted p) (start N : ℕ) (window out : List ℕ) (long : length window ≡ 8 * axisCount p) where
   -- the numbers of the window's bytes
@@ -92,7 +88,7 @@ module _ (plan : List ℕ) (below : AllBelow 256 plan) (p : Plan) (e : readPlan 
 
   pub count-as-calls : AsCalls
   count-as-calls =
-      ⊎-elim (λ h. out-of-range h) (λ h. ⊎-elim (λ t. counts h t) (λ f. off h f) (either (isWindow w (axisCount p)))) (lt-or-ge (2 ^ 32) (start + N))
+      ⊎-elim (λ h. out-of-range h) (λ h. ⊎-elim (λ t. counts h t) (λ f. off h f) (true-or-false (isWindow w (axisCount p)))) (lt-or-ge (2 ^ 32) (start + N))
 
 -- a window of another length is turned down after the run, as a list of numbers of another length is
 pub count-of-other-length : (plan : List ℕ) (p : Plan) → readPlan plan ≡ accepted p → (start N : ℕ) (window out : List ℕ) → (length window ≡ 8 * axisCount p → ⊥)

@@ -38,6 +38,10 @@ even-or-odd n = go (lt-or-ge (n % 2) 1)
 
 -- ---- tests
 
+pub true-or-false : (t : Bool) → (t ≡ true) ⊎ (t ≡ false)
+true-or-false true = inl refl
+true-or-false false = inr refl
+
 pub holds : (t : Bool) → T t → t ≡ true
 holds true h = refl
 holds false h = absurd h

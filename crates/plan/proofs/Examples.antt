@@ -1,4 +1,5 @@
--- Plan bytes and what reading them comes to, by computation: the reference points of 01-scope.md and its traps. Assumes nothing.
+-- Plan bytes and what reading them comes to, by computation: the traps of 01-scope.md, and the refusals that its reference points do not show.
+-- Assumes nothing.
 use mathlib.Core.Path.{_≡_, refl}
 use mathlib.Core.List.{List, [], _∷_, map}
 use Prim.Native.Nat.{ℕ}
@@ -17,19 +18,8 @@ row bytes reading = record { bytes = bytes; reading = reading }
 
 abbrev rows : List Row
 rows =
-    -- R7: bases 2 and 3
-    row (0x10 ∷ 0x08 ∷ 0x10 ∷ []) (accepted (halton 0 (2 ∷ 3 ∷ [])))
-    -- R9: bases 2 and 4
-    ∷ row (0x10 ∷ 0x08 ∷ 0x18 ∷ []) (refused 5)
-    -- R10: x^2 + 1
-    ∷ row (0x89 ∷ 0x00 ∷ []) (refused 7)
-    -- R11: a filling bit is 1
-    ∷ row (0x10 ∷ 0x08 ∷ 0x11 ∷ []) (refused 10)
-    -- R12
-    ∷ row [] (refused 1)
-    ∷ row (0xC8 ∷ []) (refused 2)
-    -- R5: x^3 + x + 1 with 1, 3, 7
-    ∷ row (0x89 ∷ 0xBF ∷ 0x80 ∷ []) (accepted (sobol (record { polynomial = 11; ms = 1 ∷ 3 ∷ 7 ∷ [] } ∷ [])))
+    -- x^3 + x + 1 with 1, 3, 7
+    row (0x89 ∷ 0xBF ∷ 0x80 ∷ []) (accepted (sobol (record { polynomial = 11; ms = 1 ∷ 3 ∷ 7 ∷ [] } ∷ [])))
     -- bases 4 and 9, and 6 and 9
     ∷ row (0x10 ∷ 0x18 ∷ 0x40 ∷ []) (accepted (halton 0 (4 ∷ 9 ∷ [])))
     ∷ row (0x10 ∷ 0x28 ∷ 0x40 ∷ []) (refused 5)
@@ -40,7 +30,7 @@ rows =
     -- x + 1, and degree 0
     ∷ row (0x88 ∷ 0xC0 ∷ []) (accepted (sobol (record { polynomial = 3; ms = 1 ∷ [] } ∷ [])))
     ∷ row (0x88 ∷ 0x00 ∷ []) (accepted (sobol (record { polynomial = 1; ms = [] } ∷ [])))
-    -- R5's axis twice, the second's m's cut off; and degree 0 twice
+    -- x^3 + x + 1 twice, the second's m's cut off; and degree 0 twice
     ∷ row (0x91 ∷ 0xBF ∷ 0x9A ∷ []) (refused 9)
     ∷ row (0x90 ∷ 0x00 ∷ []) (refused 9)
     -- m_2 is even, and m_3 is cut off; m_2 is odd
@@ -48,7 +38,7 @@ rows =
     ∷ row (0x89 ∷ 0xBC ∷ []) (refused 1)
     -- degree 13, its coefficients cut off
     ∷ row (0x8E ∷ 0x80 ∷ []) (refused 6)
-    -- no axis, seven axes, base 1, and a byte after R7's
+    -- no axis, seven axes, base 1, and a byte after the plan of bases 2 and 3
     ∷ row (0x00 ∷ []) (refused 3)
     ∷ row (0x38 ∷ []) (refused 3)
     ∷ row (0x08 ∷ 0x00 ∷ []) (refused 4)
