@@ -1,0 +1,32 @@
+/* Plain C that does the same work as the calls it is compared with: points of a plan held in arrays, block by block. */
+#ifndef BASELINE_H
+#define BASELINE_H
+#include <stddef.h>
+#include <stdint.h>
+
+/* A plan: family 0 Halton, 1 permuted, 2 Sobol, as in the plan bytes. */
+typedef struct {
+    int family, axes;
+    unsigned base[6];            /* Halton families */
+    uint32_t direction[6][32];   /* Sobol */
+} plan_t;
+
+/* Faure's image of digit k in base b, by his rules. */
+unsigned faure_image(unsigned b, unsigned k);
+
+/* `count` points from index `start` on, point after point; the tables are made at the start of each call. */
+void baseline_block(const plan_t *p, uint64_t start, size_t count, uint64_t *out);
+
+/* How many of them are inside the window u / q. */
+uint64_t baseline_count(const plan_t *p, uint64_t start, uint64_t count, const uint64_t *window);
+
+/* A plan with what a jump wants made beforehand: the images of the digits, and the reciprocal of each base. */
+typedef struct {
+    plan_t plan;
+    unsigned depth[6];
+    uint64_t reciprocal[6];
+    uint8_t image[6][256];
+} jumper_t;
+void baseline_prepare(const plan_t *p, jumper_t *j);
+void baseline_jump(const jumper_t *j, uint64_t index, uint64_t *out);
+#endif

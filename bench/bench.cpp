@@ -1,0 +1,243 @@
+// The calls beside their peers, in one run: nanoseconds a point or a call, and how many times as long the peer takes. Each figure is the least
+// of several rounds. First it is checked that ours and plain C write the same points.
+#include <algorithm>
+#include <chrono>
+#include <cstdio>
+#include <cstdlib>
+#include <cstring>
+#include <functional>
+#include <string>
+#include <vector>
+
+#include <boost/random/sobol.hpp>
+#include <gsl/gsl_qrng.h>
+#include <ql/math/randomnumbers/haltonrsg.hpp>
+#include <ql/math/randomnumbers/sobolrsg.hpp>
+
+extern "C" {
+#include "baseline.h"
+#include "hisowake.h"
+// the calls on a state, in loops (crate bench_calls); a slice is a pointer and a length
+uint64_t bench_blocks(const uint8_t *plan, size_t plan_len, uint64_t start, uint64_t rounds, uint64_t *out, size_t out_len);
+uint64_t bench_jumps(const uint8_t *plan, size_t plan_len, uint64_t first, uint64_t rounds, uint64_t *out, size_t out_len);
+uint64_t bench_steps(const uint8_t *plan, size_t plan_len, uint64_t start, uint64_t rounds, uint64_t *out, size_t out_len);
+uint64_t bench_counts(const uint8_t *plan, size_t plan_len, uint64_t start, uint64_t count, const uint64_t *window, size_t window_len,
+                      uint64_t rounds);
+}
+
+static double least(int rounds, const std::function<void()> &work) {
+    double best = 1e300;
+    for (int i = 0; i < rounds; i++) {
+        auto t = std::chrono::steady_clock::now();
+        work();
+        std::chrono::duration<double, std::nano> d = std::chrono::steady_clock::now() - t;
+        best = std::min(best, d.count());
+    }
+    return best;
+}
+
+struct Case {
+    std::string name;
+    plan_t plan;
+    std::vector<uint8_t> bytes;
+};
+
+static void put_bits(std::vector<uint8_t> &bytes, unsigned &at, unsigned width, unsigned value) {
+    for (unsigned i = width; i-- > 0; at++) {
+        if (at / 8 == bytes.size())
+            bytes.push_back(0);
+        bytes[at / 8] |= (value >> i & 1) << (7 - at % 8);
+    }
+}
+
+static Case halton(const char *name, int family, std::vector<unsigned> bases) {
+    Case c{name, {}, {}};
+    unsigned at = 0;
+    c.plan.family = family;
+    c.plan.axes = (int)bases.size();
+    put_bits(c.bytes, at, 2, (unsigned)family);
+    put_bits(c.bytes, at, 3, (unsigned)bases.size());
+    for (size_t i = 0; i < bases.size(); i++) {
+        c.plan.base[i] = bases[i];
+        put_bits(c.bytes, at, 8, bases[i] - 1);
+    }
+    return c;
+}
+
+// An axis of a Sobol plan: the degree, the coefficients as a number, and the m's.
+struct Axis {
+    unsigned degree, coefficients;
+    std::vector<unsigned> m;
+};
+
+static Case sobol(const char *name, const std::vector<Axis> &axes) {
+    Case c{name, {}, {}};
+    unsigned at = 0;
+    c.plan.family = 2;
+    c.plan.axes = (int)axes.size();
+    put_bits(c.bytes, at, 2, 2);
+    put_bits(c.bytes, at, 3, (unsigned)axes.size());
+    for (size_t a = 0; a < axes.size(); a++) {
+        unsigned d = axes[a].degree;
+        std::vector<uint64_t> m(axes[a].m.begin(), axes[a].m.end());
+        put_bits(c.bytes, at, 4, d);
+        put_bits(c.bytes, at, d ? d - 1 : 0, axes[a].coefficients);
+        for (unsigned i = 0; i < d; i++)
+            put_bits(c.bytes, at, i + 1, (unsigned)m[i]);
+        for (unsigned i = d; i < 32; i++) {
+            uint64_t x = d ? m[i - d] ^ (m[i - d] << d) : 1;
+            for (unsigned k = 1; k < d; k++)
+                if (axes[a].coefficients >> (d - 1 - k) & 1)
+                    x ^= m[i - k] << k;
+            m.push_back(x);
+        }
+        for (unsigned i = 0; i < 32; i++)
+            c.plan.direction[a][i] = (uint32_t)(m[i] << (31 - i));
+    }
+    return c;
+}
+
+static const std::vector<Axis> SIX = {{0, 0, {}}, {1, 0, {1}}, {2, 1, {1, 3}}, {3, 1, {1, 3, 1}}, {3, 2, {1, 1, 1}}, {4, 1, {1, 1, 3, 3}}};
+
+static std::vector<Axis> first(size_t n) { return {SIX.begin(), SIX.begin() + (long)n}; }
+
+static std::vector<Case> cases() {
+    return {halton("Halton 2", 0, {2}),
+            halton("Halton 2 3 5", 0, {2, 3, 5}),
+            halton("Halton 2 3 5 7 11 13", 0, {2, 3, 5, 7, 11, 13}),
+            halton("Halton 256 255 253 251 247 241", 0, {256, 255, 253, 251, 247, 241}),
+            halton("permuted 5", 1, {5}),
+            halton("permuted 3 5 7", 1, {3, 5, 7}),
+            halton("permuted 2 3 5 7 11 13", 1, {2, 3, 5, 7, 11, 13}),
+            halton("permuted 256 255 253 251 247 241", 1, {256, 255, 253, 251, 247, 241}),
+            sobol("Sobol, 1 axis", first(1)),
+            sobol("Sobol, 3 axes", first(3)),
+            sobol("Sobol, 6 axes", first(6))};
+}
+
+static void check(bool holds, const std::string &what) {
+    if (!holds) {
+        printf("FAILED: %s\n", what.c_str());
+        exit(1);
+    }
+}
+
+static void same(const Case &c) {
+    size_t n = 5000, s = (size_t)c.plan.axes;
+    std::vector<uint64_t> ours(n * s), plain(n * s), window;
+    for (uint64_t start : {0u, 12345u, 4294962296u}) {
+        check(bench_blocks(c.bytes.data(), c.bytes.size(), start, 1, ours.data(), ours.size()) == n || start > 4294000000u, c.name + ": a block");
+        baseline_block(&c.plan, start, n, plain.data());
+        if (start < 4294000000u)
+            check(ours == plain, c.name + ": points");
+    }
+}
+
+static void line(const std::string &name, double ours, const char *unit, std::vector<std::pair<const char *, double>> peers) {
+    printf("| %-34s | %8.2f %-9s |", name.c_str(), ours, unit);
+    for (auto &p : peers)
+        printf(" %s %.2f (x %.2f)", p.first, p.second, p.second / ours);
+    printf(" |\n");
+}
+
+static double gsl_point(const gsl_qrng_type *type, unsigned axes) {
+    gsl_qrng *q = gsl_qrng_alloc(type, axes);
+    double v[6];
+    double t = least(5, [&] { for (int i = 0; i < 100000; i++) gsl_qrng_get(q, v); }) / 100000;
+    gsl_qrng_free(q);
+    return t;
+}
+
+static double boost_point(size_t axes) {
+    boost::random::sobol_engine<uint32_t, 32> e(axes);
+    volatile uint32_t sink = 0;
+    return least(5, [&] { for (size_t i = 0; i < 100000 * axes; i++) sink = e(); }) / 100000;
+}
+
+static double quantlib_halton(size_t axes) {
+    QuantLib::HaltonRsg r(axes, 0, false, false);
+    return least(5, [&] { for (int i = 0; i < 20000; i++) r.nextSequence(); }) / 20000;
+}
+
+static double quantlib_sobol(size_t axes) {
+    QuantLib::SobolRsg r(axes);
+    return least(5, [&] { for (int i = 0; i < 100000; i++) r.nextInt32Sequence(); }) / 100000;
+}
+
+static bool is_first_primes(const Case &c) {
+    static const unsigned primes[6] = {2, 3, 5, 7, 11, 13};
+    return c.plan.family == 0 && std::equal(c.plan.base, c.plan.base + c.plan.axes, primes);
+}
+
+static void blocks(const std::vector<Case> &all) {
+    printf("\n## A block of 100,000 points: ns a point\n\n| plan | ours | peers, and how many times as long |\n|---|---|---|\n");
+    for (const Case &c : all) {
+        size_t n = 100000, s = (size_t)c.plan.axes;
+        std::vector<uint64_t> out(n * s);
+        double ours = least(7, [&] { bench_blocks(c.bytes.data(), c.bytes.size(), 12345, 1, out.data(), out.size()); }) / (double)n;
+        std::vector<std::pair<const char *, double>> peers;
+        peers.push_back({"C", least(7, [&] { baseline_block(&c.plan, 12345, n, out.data()); }) / (double)n});
+        if (is_first_primes(c)) {
+            peers.push_back({"GSL", gsl_point(gsl_qrng_halton, (unsigned)s)});
+            peers.push_back({"QuantLib", quantlib_halton(s)});
+        }
+        if (c.plan.family == 2) {
+            peers.push_back({"Boost", boost_point(s)});
+            peers.push_back({"GSL", gsl_point(gsl_qrng_sobol, (unsigned)s)});
+            peers.push_back({"QuantLib", quantlib_sobol(s)});
+        }
+        line(c.name, ours, "ns", peers);
+    }
+}
+
+static void small_blocks(const std::vector<Case> &all) {
+    printf("\n## A small block: ns a call, the state test included\n\n| plan | ours | plain C, tables made at each call |\n|---|---|---|\n");
+    for (const Case &c : all)
+        for (size_t n : {1u, 64u}) {
+            size_t s = (size_t)c.plan.axes;
+            std::vector<uint64_t> out(n * s);
+            double ours = least(5, [&] { bench_blocks(c.bytes.data(), c.bytes.size(), 12345, 200, out.data(), out.size()); }) / 200;
+            double plain = least(5, [&] { for (int i = 0; i < 200; i++) baseline_block(&c.plan, 12345, n, out.data()); }) / 200;
+            line(c.name + ", " + std::to_string(n), ours, "ns", {{"C", plain}});
+        }
+}
+
+static void counts(const std::vector<Case> &all) {
+    printf("\n## A window count over 1,000,000 points: ns a point\n\n| plan | ours | plain C |\n|---|---|---|\n");
+    for (const Case &c : all) {
+        uint64_t n = 1000000, window[12], s = 0, plain = 0;
+        for (int a = 0; a < c.plan.axes; a++) {
+            window[2 * a] = (uint64_t)a + 1;
+            window[2 * a + 1] = (uint64_t)a + 2;
+        }
+        double ours = least(5, [&] { s = bench_counts(c.bytes.data(), c.bytes.size(), 12345, n, window, 2 * (size_t)c.plan.axes, 1); }) / (double)n;
+        double c_time = least(5, [&] { plain = baseline_count(&c.plan, 12345, n, window); }) / (double)n;
+        check(s == plain, c.name + ": S");
+        line(c.name, ours, "ns", {{"C", c_time}});
+    }
+}
+
+static void calls(const std::vector<Case> &all) {
+    printf("\n## One call: ns\n\n| plan | jump | step | C point | C jump with tables and reciprocals made beforehand |\n|---|---|---|---|---|\n");
+    for (const Case &c : all) {
+        uint64_t out[6];
+        uint8_t bytes[48];
+        jumper_t j;
+        baseline_prepare(&c.plan, &j);
+        double jump = least(5, [&] { bench_jumps(c.bytes.data(), c.bytes.size(), 123456789, 1000, out, 6); }) / 1000;
+        double step = least(5, [&] { bench_steps(c.bytes.data(), c.bytes.size(), 123456789, 1000, out, 6); }) / 1000;
+        double point = least(5, [&] { for (uint64_t i = 0; i < 1000; i++) hisowake_point(c.bytes.data(), c.bytes.size(), 123456789 ^ i, bytes, 48); }) / 1000;
+        double plain = least(5, [&] { for (uint64_t i = 0; i < 1000; i++) baseline_jump(&j, 123456789 ^ i, out); }) / 1000;
+        printf("| %-34s | %.0f | %.0f | %.0f | %.0f |\n", c.name.c_str(), jump, step, point, plain);
+    }
+}
+
+int main() {
+    std::vector<Case> all = cases();
+    for (const Case &c : all)
+        same(c);
+    blocks(all);
+    small_blocks(all);
+    counts(all);
+    calls(all);
+}

@@ -1,0 +1,74 @@
+// The calls on a state in loops, for the benchmark: each function reads its plan once and then makes one call so many times. No customer calls
+// these, so their contracts say only that they end without a fault.
+use state::Sampler;
+ghost use Prim.Native.Nat.{_≤_};
+
+// The state of a plan with a run opened.
+fn opened(plan: &[u8], start: u64, count: u64) -> Sampler {
+    let r = sampler::read(plan);
+    let o = sampler::open(r.state, start, count);
+    o.state
+}
+
+// Fills `out` by a block, `rounds` times from the same state. Answers how many points one block has.
+#[no_mangle]
+pub extern "C" fn bench_blocks(plan: &[u8], start: u64, rounds: u64, out: &mut [u64]) -> u64 {
+    let s = opened(plan, start, 1048576);
+    let mut points = 0;
+    let mut i = 0;
+    while i < rounds {
+        let b = sampler::block(s, out);
+        points = b.points;
+        i += 1;
+    }
+    points
+}
+
+// Jumps to `rounds` indexes. Answers the last refusal's number or 0.
+#[no_mangle]
+pub extern "C" fn bench_jumps(plan: &[u8], first: u64, rounds: u64, out: &mut [u64]) -> u64 {
+    let s = opened(plan, 0, 0);
+    let mut code = 0;
+    let mut i = 0;
+    while i < rounds {
+        let j = sampler::jump(s, (first ^ i) % 4294967296, out);
+        code = j.code;
+        i += 1;
+    }
+    code
+}
+
+// Takes `rounds` steps of a run. Answers the last refusal's number or 0.
+#[no_mangle]
+pub extern "C" fn bench_steps(plan: &[u8], start: u64, rounds: u64, out: &mut [u64]) -> u64 {
+    let mut s = opened(plan, start, rounds);
+    let mut code = 0;
+    let mut i = 0;
+    while i < rounds {
+        let r = sampler::step(s, out);
+        code = r.code;
+        s = r.state;
+        i += 1;
+    }
+    code
+}
+
+// Counts a window over a run, `rounds` times. Answers S.
+#[no_mangle]
+pub extern "C" fn bench_counts(
+    plan: &[u8],
+    start: u64,
+    count: u64,
+    window: &[u64],
+    rounds: u64,
+) -> u64 {
+    let s = opened(plan, start, count);
+    let mut inside = 0;
+    let mut i = 0;
+    while i < rounds {
+        let r = window_count::count(s, window);
+        inside = r.inside;
+        i += 1;
+    }
+    inside
+}
