@@ -4,8 +4,8 @@ use mathlib.Core.Path.{_≡_, refl, sym, ap, _∙_}
 use mathlib.Core.Bool.{Bool, true, false, _&&_, and-false, and-eq-true-iff}
 use mathlib.Core.Logic.{_⊎_, inl, inr}
 use mathlib.Core.List.{List}
-use Prim.Native.Nat.{ℕ, zero, suc, _+_, _*_, _^_, _≤_, _<_}
-use native.Mathlib.Nat.{add-assoc, eq-or-lt-of-le, le-of-suc-le-suc, not-suc-le-zero, le-refl}
+use Prim.Native.Nat.{ℕ, zero, suc, _+_, _-_, _*_, _/_, _^_, _≤_, _<_}
+use native.Mathlib.Nat.{add-assoc, eq-or-lt-of-le, le-of-suc-le-suc, not-suc-le-zero, le-refl, add-mul, le-div-iff-mul-le}
 use native.Mathlib.Numerals.{add-one}
 use native.Mathlib.Omega.{arith}
 use lib.Dec.{ltb, leb, eqb}
@@ -13,14 +13,14 @@ use lib.ListN.{length, getD, replicate, getD-replicate}
 use borrow.Author.Tests.{lt-ltb, le-ltb, le-leb, lt-leb, leb-true, ltb-true, eq-eqb, ne-eqb, eqb-true}
 use Rattle.numbers.specs.Count.{bit, count}
 use Rattle.numbers.specs.Cut.{belowCut}
+use Rattle.numbers.proofs.Cases.{lt-iff}
 use Rattle.numbers.proofs.CountLaws.{count-ext, count-parts}
 use Rattle.discrepancy.specs.Bound.{factor, haltonAxes}
 use Rattle.discrepancy.proofs.FitLaws.{bound-fits}
 use Rattle.blocks.specs.Filling.{Column}
-use Rattle.points.specs.Arrays.{numeratorAt, numeratorFrom, denominatorAt, Arrays}
-use Rattle.points.proofs.ArrayLaws.{denominator-at-lt, numerator-at-lt}
+use Rattle.points.specs.Arrays.{numeratorAt, numeratorFrom, denominatorAt}
 use Rattle.window.specs.Counting.{uOf, qOf, boundOver, isCut, areCuts, isWindow, Cuts}
-use Rattle.window.specs.Walking.{insideBy, insideFrom, boundBy, keepIf, Flags, marked, Marked, Room}
+use Rattle.window.specs.Walking.{insideBy, insideFrom, boundBy, cutLimit, keepIf, Flags, marked, Marked, Room}
 use Rattle.window.proofs.Demand3.{runAxes, same-bound}
 
 -- ---- windows that are taken
@@ -105,10 +105,22 @@ module _ (w : List ℕ) where
           record {
             enough = omega (arith, eqb-true (length w) (2 * s) (window-parts .0));
             u-small = λ i l. let r = cut-range (uOf w i) (qOf w i) (cuts-at s i (window-parts .1) l) in omega (arith, r .1, r .2);
+            q-pos = λ i l. cut-range (uOf w i) (qOf w i) (cuts-at s i (window-parts .1) l) .0;
             q-small = λ i l. cut-range (uOf w i) (qOf w i) (cuts-at s i (window-parts .1) l) .1;
           }
 
 -- ---- flags
+
+-- below the limit is below the cut
+limit-cut : (x d u q : ℕ) → 1 ≤ q → ltb x (cutLimit u q d) ≡ belowCut x d u q
+unfolding cutLimit belowCut
+limit-cut x d u q pos = lt-iff x ((u * d + (q - 1)) / q) (x * q) (u * d) (λ h. there h) (λ h. back h)
+  where
+    there : x < (u * d + (q - 1)) / q → x * q < u * d
+    there h = omega (arith, le-div-iff-mul-le {k = q} {x = x + 1} {y = u * d + (q - 1)} pos .0 (omega arith), add-mul x 1 q)
+
+    back : x * q < u * d → x < (u * d + (q - 1)) / q
+    back h = omega (arith, le-div-iff-mul-le {k = q} {x = x + 1} {y = u * d + (q - 1)} pos .1 (omega (arith, add-mul x 1 q)))
 
 pub keep-yes : (a b f : ℕ) → a < b → f ≡ keepIf (ltb a b) f
 unfolding keepIf
@@ -136,22 +148,18 @@ module _ (family : ℕ) (bases vs w : List ℕ) (n : ℕ) where
   unfolding numeratorFrom
   column-at s m x₀ x c i h = ap (λ (y : ℕ). getD x y 0) {x = i} {y = i * 1 + 0} (omega arith) ∙ c .wrote i (omega arith) h
 
-  pub column-small : (s m : ℕ) (x₀ x : List ℕ) → Column (numeratorFrom family bases vs n s) 0 m 1 0 x₀ x → {axes : ℕ} → Arrays family axes bases vs → s < axes
-      → (i : ℕ) → i < m → getD x i 0 < 2 ^ 40
-  column-small s m x₀ x c a l i h = omega (arith, column-at s m x₀ x c i h, numerator-at-lt a s l (n + i), denominator-at-lt a s l)
-
   -- one axis more
-  pub flags-more : (s m q limit : ℕ) (x₀ x l new : List ℕ) → Flags (insideFrom family bases vs w s n) m l
-      → Column (numeratorFrom family bases vs n s) 0 m 1 0 x₀ x → Marked q limit m x l new
-      → q ≡ qOf w s → limit ≡ uOf w s * denominatorAt family bases s → Flags (insideFrom family bases vs w (s + 1) n) m new
-  unfolding insideFrom insideBy belowCut marked
-  flags-more s m q limit x₀ x l new f c k e d = record { at = one }
+  pub flags-more : (s m limit : ℕ) (x₀ x l new : List ℕ) → Flags (insideFrom family bases vs w s n) m l
+      → Column (numeratorFrom family bases vs n s) 0 m 1 0 x₀ x → Marked limit m x l new
+      → limit ≡ cutLimit (uOf w s) (qOf w s) (denominatorAt family bases s) → 1 ≤ qOf w s → Flags (insideFrom family bases vs w (s + 1) n) m new
+  unfolding insideFrom insideBy marked
+  flags-more s m limit x₀ x l new f c k e pos = record { at = one }
     where
       one : (i : ℕ) → i < m → getD new i 0 ≡ bit (insideBy family bases vs w (n + i) (s + 1))
       one i h =
           k .at i h
-          ∙ rw (column-at s m x₀ x c i h, f .at i h, e, d, add-one s)
-          (keep-bit (insideBy family bases vs w (n + i) s) (ltb (numeratorAt family bases vs (n + i) s * qOf w s) (uOf w s * denominatorAt family bases s)))
+          ∙ rw (column-at s m x₀ x c i h, f .at i h, e, limit-cut (numeratorAt family bases vs (n + i) s) (denominatorAt family bases s) (uOf w s) (qOf w s) pos, add-one s)
+          (keep-bit (insideBy family bases vs w (n + i) s) (belowCut (numeratorAt family bases vs (n + i) s) (denominatorAt family bases s) (uOf w s) (qOf w s)))
 
   -- ---- parts of a run
 

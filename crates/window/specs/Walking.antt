@@ -2,7 +2,7 @@
 use mathlib.Core.Path.{_≡_}
 use mathlib.Core.Bool.{Bool, true, false, _&&_}
 use mathlib.Core.List.{List}
-use Prim.Native.Nat.{ℕ, zero, suc, _+_, _*_, _^_, _≤_, _<_}
+use Prim.Native.Nat.{ℕ, zero, suc, _+_, _-_, _*_, _/_, _^_, _≤_, _<_}
 use lib.Dec.{ltb, eqb}
 use lib.ListN.{length, getD}
 use Rattle.numbers.specs.Count.{bit}
@@ -34,17 +34,22 @@ unfoldable pub keepIf : Bool → ℕ → ℕ
 keepIf true f = f
 keepIf false f = 0
 
+-- the least numerator over d that is not below the cut u / q
+unfoldable pub cutLimit : ℕ → ℕ → ℕ → ℕ
+cutLimit u q d = (u * d + (q - 1)) / q
+
 -- flag i after a test of entry i of x
-unfoldable pub marked : ℕ → ℕ → List ℕ → List ℕ → ℕ → ℕ
-marked q limit x old i = keepIf (ltb (getD x i 0 * q) limit) (getD old i 0)
+unfoldable pub marked : ℕ → List ℕ → List ℕ → ℕ → ℕ
+marked limit x old i = keepIf (ltb (getD x i 0) limit) (getD old i 0)
 
 -- the first m flags after the test
-pub record Marked (q limit m : ℕ) (x old new : List ℕ) : Type 0 where
+pub record Marked (limit m : ℕ) (x old new : List ℕ) : Type 0 where
   pub same-length : length new ≡ length old
-  pub at : (i : ℕ) → i < m → getD new i 0 ≡ marked q limit x old i
+  pub at : (i : ℕ) → i < m → getD new i 0 ≡ marked limit x old i
 
--- the window has two numbers for each of s axes, each at most 2^24
+-- the window has two numbers for each of s axes, each at most 2^24, and no q is 0
 pub record Room (w : List ℕ) (s : ℕ) : Type 0 where
   pub enough : 2 * s ≤ length w
   pub u-small : (i : ℕ) → i < s → uOf w i ≤ 2 ^ 24
+  pub q-pos : (i : ℕ) → i < s → 1 ≤ qOf w i
   pub q-small : (i : ℕ) → i < s → qOf w i ≤ 2 ^ 24

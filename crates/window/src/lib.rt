@@ -3,12 +3,12 @@ ghost use mathlib.Core.Path.{_≡_};
 ghost use mathlib.Core.Bool.{Bool};
 ghost use Prim.Native.Nat.{ℕ, _+_, _*_, _^_, _<_, _≤_};
 ghost use lib.Dec.{ltb, eqb};
-ghost use lib.ListN.{length, getD};
+ghost use lib.ListN.{length};
 ghost use Rattle.numbers.specs.Count.{count};
 ghost use Rattle.discrepancy.specs.Bound.{factor};
 ghost use Rattle.points.specs.Arrays.{Arrays};
 ghost use Rattle.window.specs.Counting.{isCut, isWindow};
-ghost use Rattle.window.specs.Walking.{insideFrom, boundBy, keepIf, Flags, Marked, Room};
+ghost use Rattle.window.specs.Walking.{insideFrom, boundBy, cutLimit, keepIf, Flags, Marked, Room};
 
 // Whether u / q is a cut that the calls take: q from 1 to 2^24, u from 0 to q.
 fn is_cut(u: u64, q: u64) -> bool
@@ -41,22 +41,29 @@ pub fn is_window(w: &[u64], axes: usize) -> bool
     true
 }
 
-// The flag `f` where x × q is below `limit`, else 0.
-fn keep(x: u64, q: u64, limit: u64, f: u8) -> u8
-    requires { ⌜ x * q < 2 ^ 64 ⌝ }
-    ensures { λ r. ⌜ r ≡ keepIf (ltb (x * q) limit) f ⌝ }
+// The least numerator over `d` that is not below the cut u / q: one division a cut saves a product a point.
+fn cut_limit(u: u64, q: u64, d: u64) -> u64
+    requires { ⌜ (u ≤ 2 ^ 24) × (1 ≤ q) × (q ≤ 2 ^ 24) × (d < 2 ^ 40) ⌝ }
+    ensures { λ r. ⌜ r ≡ cutLimit u q d ⌝ }
 {
-    if x * q < limit { f } else { 0 }
+    (u * d + (q - 1)) / q
+}
+
+// The flag `f` where `x` is below `limit`, else 0.
+fn keep(x: u64, limit: u64, f: u8) -> u8
+    ensures { λ r. ⌜ r ≡ keepIf (ltb x limit) f ⌝ }
+{
+    if x < limit { f } else { 0 }
 }
 
 // Tests the first `m` numerators of `x`, and clears the flags of those that are not below their cut.
-fn mark(x: &[u64], q: u64, limit: u64, m: usize, l: &mut [u8])
-    requires { ⌜ (m ≤ length (now x)) × (m ≤ length (now l)) × (q ≤ 2 ^ 24) × ((i : ℕ) → i < m → getD (now x) i 0 < 2 ^ 40) ⌝ }
-    ensures { λ r. ⌜ Marked q limit m (now (x .entry)) (now (l .entry)) (now (l .exit)) ⌝ }
+fn mark(x: &[u64], limit: u64, m: usize, l: &mut [u8])
+    requires { ⌜ (m ≤ length (now x)) × (m ≤ length (now l)) ⌝ }
+    ensures { λ r. ⌜ Marked limit m (now (x .entry)) (now (l .entry)) (now (l .exit)) ⌝ }
 {
     let mut i = 0;
     while i < m {
-        l[i] = keep(x[i], q, limit, l[i]);
+        l[i] = keep(x[i], limit, l[i]);
         i += 1;
     }
 }
@@ -94,7 +101,8 @@ fn count_part(
     while i < axes {
         points::fill_column(family, axes, bases, directions, i, n, 0, m, 1, 0, &mut x);
         let d = points::denominator(family, axes, bases, directions, i);
-        mark(&x, w[2 * i + 1], w[2 * i] * d, m, &mut l);
+        let limit = cut_limit(w[2 * i], w[2 * i + 1], d);
+        mark(&x, limit, m, &mut l);
         i += 1;
     }
     total(&l, m)

@@ -1,14 +1,13 @@
 -- `window::count_part` meets its contract: after i axes a flag says whether its point is inside on them. Assumes nothing.
 use mathlib.Core.Path.{_≡_, refl, ap, _∙_, subst}
-use Prim.Native.Nat.{ℕ, _+_, _-_, _*_, _^_, _≤_, _<_}
-use native.Mathlib.Nat.{mul-le-mul}
+use Prim.Native.Nat.{ℕ, _+_, _-_, _*_, _≤_, _<_}
 use native.Mathlib.Omega.{arith}
 use borrow.Author.Needs.{needs}
 use lib.ListN.{length}
 use Rattle.points.proofs.ArrayLaws.{denominator-at-lt}
-use Rattle.window.specs.Counting.{uOf}
-use Rattle.window.specs.Walking.{insideFrom, Flags}
-use Rattle.window.proofs.WalkLaws.{flags-none, flags-more, column-small}
+use Rattle.window.specs.Counting.{uOf, qOf}
+use Rattle.window.specs.Walking.{insideFrom, cutLimit, Flags}
+use Rattle.window.proofs.WalkLaws.{flags-none, flags-more}
 use Rattle.window.proofs.count_part.Statement.{statement}
 use Rattle.window.proofs.count_part.Tie as tie
 
@@ -38,65 +37,60 @@ fill-column-requires c κs =
 denominator-requires : tie.Need-denominator-requires Inv-loop μ-loop
 denominator-requires c κs = (c .before .before .before .before .before .before .before .before .pre .0, omega arith)
 
+mul-cut-limit : tie.Need-mul-cut-limit Inv-loop μ-loop
+mul-cut-limit c = omega (arith, room (c .before .before .before .before))
+
+mul-cut-limit-2 : tie.Need-mul-cut-limit-2 Inv-loop μ-loop
+mul-cut-limit-2 c = omega (arith, room (c .before .before .before .before))
+
+shared-slice-read-cut-limit : tie.Need-shared-slice-read-cut-limit Inv-loop μ-loop
+shared-slice-read-cut-limit c = omega (arith, room (c .before .before .before .before .before))
+
+mul-cut-limit-3 : tie.Need-mul-cut-limit-3 Inv-loop μ-loop
+mul-cut-limit-3 c = omega (arith, room (c .before .before .before .before .before))
+
+add-cut-limit : tie.Need-add-cut-limit Inv-loop μ-loop
+add-cut-limit c = omega (arith, room (c .before .before .before .before .before))
+
+mul-cut-limit-4 : tie.Need-mul-cut-limit-4 Inv-loop μ-loop
+mul-cut-limit-4 c = omega (arith, room (c .before .before .before .before .before))
+
+shared-slice-read-cut-limit-2 : tie.Need-shared-slice-read-cut-limit-2 Inv-loop μ-loop
+shared-slice-read-cut-limit-2 c = omega (arith, room (c .before .before .before .before .before .before))
+
+cut-limit-requires : tie.Need-cut-limit-requires Inv-loop μ-loop
+cut-limit-requires c κs =
+    let s = c .before .before .before .before .before .before .before .before .before .before .before in
+    let i = c .before .before .before .before .before .before .before .loop .i in
+    let d = c .before .before .denominator in
+    (s .pre .3 .u-small i (omega arith), s .pre .3 .q-pos i (omega arith), s .pre .3 .q-small i (omega arith), omega (arith, d .ensures, denominator-at-lt (s .pre .0) i (omega arith)))
+
 slice-aggregate-mark : tie.Need-slice-aggregate-mark Inv-loop μ-loop
 slice-aggregate-mark c = search needs
-
-mul-mark : tie.Need-mul-mark Inv-loop μ-loop
-mul-mark c = omega (arith, room (c .before .before .before .before .before))
-
-add-mark : tie.Need-add-mark Inv-loop μ-loop
-add-mark c = omega (arith, room (c .before .before .before .before .before))
-
-mul-mark-2 : tie.Need-mul-mark-2 Inv-loop μ-loop
-mul-mark-2 c = omega (arith, room (c .before .before .before .before .before))
-
-shared-slice-read-mark : tie.Need-shared-slice-read-mark Inv-loop μ-loop
-shared-slice-read-mark c = omega (arith, room (c .before .before .before .before .before .before))
-
-mul-mark-3 : tie.Need-mul-mark-3 Inv-loop μ-loop
-mul-mark-3 c = omega (arith, room (c .before .before .before .before .before .before))
-
-mul-mark-4 : tie.Need-mul-mark-4 Inv-loop μ-loop
-mul-mark-4 c = omega (arith, room (c .before .before .before .before .before .before))
-
-shared-slice-read-mark-2 : tie.Need-shared-slice-read-mark-2 Inv-loop μ-loop
-shared-slice-read-mark-2 c = omega (arith, room (c .before .before .before .before .before .before .before))
-
-mul-mark-5 : tie.Need-mul-mark-5 Inv-loop μ-loop
-mul-mark-5 c =
-    let s = c .before .before .before .before .before .before .before .before .before .before .before .before in
-    let i = c .before .before .before .before .before .before .before .before .loop .i in
-    let d = c .before .before .before .denominator in
-    omega (arith, mul-le-mul {n₁ = uOf (s .args .w .now) i} {m₁ = d .result} {n₂ = 2 ^ 24} {m₂ = 2 ^ 40 - 1} (s .pre .3 .u-small i (omega arith)) (omega (arith, d .ensures, denominator-at-lt (s .pre .0) i (omega arith))))
 
 slice-aggregate-mark-2 : tie.Need-slice-aggregate-mark-2 Inv-loop μ-loop
 slice-aggregate-mark-2 c = search needs
 
 mark-requires : tie.Need-mark-requires Inv-loop μ-loop
-mark-requires c κs =
-    let s = c .before .before .before .before .before .before .before .before .before .before .before .before .before in
-    let i = c .before .before .before .before .before .before .before .before .before .loop .i in
-    let f = c .before .before .before .before .before .before .fill-column in (
-      omega (arith, f .ensures .same-length, c .before .before .before .before .before .before .before .before .before .loop .inv .2),
-      omega (arith, c .before .before .before .before .before .before .before .before .before .loop .inv .3),
-      s .pre .3 .q-small i (omega arith),
-      λ j h. column-small (s .args .family) (s .args .bases .now) (s .args .directions .now) (s .args .w .now) (s .args .n) i (s .args .m) _ _ (f .ensures) (s .pre .0) (omega arith) j h,
-    )
+mark-requires c κs = omega (arith, c .before .before .before .before .before .before .before .fill-column .ensures .same-length, c .before .before .before .before .before .before .before .before .before .before .loop .inv .2, c .before .before .before .before .before .before .before .before .before .before .loop .inv .3)
 
 add-i : tie.Need-add-i Inv-loop μ-loop
-add-i c = omega (arith, c .before .before .before .before .before .before .before .before .before .before .before .before .before .before .before .pre .0 .few)
+add-i c = omega (arith, c .before .before .before .before .before .before .before .before .before .before .before .before .before .before .before .before .pre .0 .few)
 
 loop-less : tie.Need-loop-less Inv-loop μ-loop
 loop-less c = omega arith
 
 loop-again : tie.Need-loop-again Inv-loop μ-loop
 loop-again c =
-    let s = c .before .before .before .before .before .before .before .before .before .before .before .before .before .before .before in
+    let s = c .before .before .before .before .before .before .before .before .before .before .before .before .before .before .before .before in
     let a = s .args in
-    let l = c .before .before .before .before .before .before .before .before .before .before .before .loop in (
+    let l = c .before .before .before .before .before .before .before .before .before .before .before .before .loop in
+    let f = c .before .before .before .before .before .before .before .before .before .fill-column .ensures in
+    let d = c .before .before .before .before .before .before .before .denominator .ensures in (
       omega arith,
-      flags-more (a .family) (a .bases .now) (a .directions .now) (a .w .now) (a .n) (l .i) (a .m) _ _ _ _ _ _ (l .inv .1) (c .before .before .before .before .before .before .before .before .fill-column .ensures) (c .before .mark .ensures) refl (ap (λ (d : ℕ). uOf (a .w .now) (l .i) * d) (c .before .before .before .before .before .before .denominator .ensures)),
-      c .before .before .before .before .before .before .before .before .fill-column .ensures .same-length ∙ l .inv .2,
+      flags-more (a .family) (a .bases .now) (a .directions .now) (a .w .now) (a .n) (l .i) (a .m) _ _ _ _ _ (l .inv .1) f (c .before .mark .ensures)
+          (c .before .before .before .before .cut-limit .ensures ∙ ap (cutLimit (uOf (a .w .now) (l .i)) (qOf (a .w .now) (l .i))) d) (s .pre .3 .q-pos (l .i) (omega arith)),
+      f .same-length ∙ l .inv .2,
       c .before .mark .ensures .same-length ∙ l .inv .3,
     )
 
@@ -124,15 +118,15 @@ count-part-spec =
     slice-aggregate-fill-column
     fill-column-requires
     denominator-requires
+    mul-cut-limit
+    mul-cut-limit-2
+    shared-slice-read-cut-limit
+    mul-cut-limit-3
+    add-cut-limit
+    mul-cut-limit-4
+    shared-slice-read-cut-limit-2
+    cut-limit-requires
     slice-aggregate-mark
-    mul-mark
-    add-mark
-    mul-mark-2
-    shared-slice-read-mark
-    mul-mark-3
-    mul-mark-4
-    shared-slice-read-mark-2
-    mul-mark-5
     slice-aggregate-mark-2
     mark-requires
     add-i

@@ -1,8 +1,7 @@
 -- `window::mark` meets its contract: the first i flags are tested, the others as they were. Assumes nothing.
 use native.Mathlib.Omega.{arith}
 use mathlib.Core.Path.{ap, _∙_}
-use Prim.Native.Nat.{_-_, _*_, _≤_, _^_}
-use native.Mathlib.Nat.{mul-le-mul}
+use Prim.Native.Nat.{_-_, _≤_}
 use lib.Dec.{ltb}
 use lib.ListN.{getD}
 use Rattle.numbers.proofs.ListedLaws.{Over, over-none, over-store}
@@ -11,10 +10,10 @@ use Rattle.window.proofs.mark.Statement.{statement}
 use Rattle.window.proofs.mark.Tie as tie
 
 abbrev Inv-loop : tie.InvT-loop
-Inv-loop x q limit m l₀ i₀ l i = (i ≤ m) × Over (marked q limit x l₀) l₀ l i
+Inv-loop x limit m l₀ i₀ l i = (i ≤ m) × Over (marked limit x l₀) l₀ l i
 
 abbrev μ-loop : tie.MeasureT-loop
-μ-loop x q limit m l₀ i₀ l i = m - i
+μ-loop x limit m l₀ i₀ l i = m - i
 
 loop-holds : tie.Need-loop-holds Inv-loop μ-loop
 loop-holds c = (omega arith, over-none _ _)
@@ -29,10 +28,7 @@ slice-read-keep : tie.Need-slice-read-keep Inv-loop μ-loop
 slice-read-keep c = omega (arith, c .before .before .before .loop .inv .1 .long)
 
 keep-requires : tie.Need-keep-requires Inv-loop μ-loop
-keep-requires c κs =
-    let s = c .before .before .before .before .before .before in
-    let i = c .before .before .before .loop .i in
-    omega (arith, mul-le-mul {n₁ = getD (s .args .x .now) i 0} {m₁ = s .args .q} {n₂ = 2 ^ 40 - 1} {m₂ = 2 ^ 24} (omega (arith, s .pre .3 i (omega arith))) (omega arith))
+keep-requires c κs = omega arith
 
 slice-write-l : tie.Need-slice-write-l Inv-loop μ-loop
 slice-write-l c = omega (arith, c .before .before .before .before .loop .inv .1 .long)
@@ -48,7 +44,7 @@ unfolding marked
 loop-again c =
     let a = c .before .before .before .before .before .before .before .args in
     let l = c .before .before .before .before .loop in
-    (omega arith, over-store _ _ _ _ _ (l .inv .1) (omega arith) (c .keep .ensures ∙ ap (keepIf (ltb (getD (a .x .now) (l .i) 0 * a .q) (a .limit))) (l .inv .1 .rest (l .i) (omega arith))))
+    (omega arith, over-store _ _ _ _ _ (l .inv .1) (omega arith) (c .keep .ensures ∙ ap (keepIf (ltb (getD (a .x .now) (l .i) 0) (a .limit))) (l .inv .1 .rest (l .i) (omega arith))))
 
 same-length : tie.Need-same-length Inv-loop μ-loop
 same-length c = c .before .loop .inv .1 .long
