@@ -1,0 +1,251 @@
+"""Plans, points and window counts in plain Python, written from the papers alone: the scope document 01 and the source documents 001 (Faure's
+permutations), 002 and 004 (van der Corput, Halton) and 003 (Sobol). It shares nothing with the crates, and is slow on purpose."""
+from collections import namedtuple
+from functools import lru_cache
+from math import gcd
+
+INDEXES = 2**32
+HALTON, PERMUTED, SOBOL = 0, 1, 2
+SOBOL_DENOMINATOR = 2**32
+
+# axes: the bases of a Halton plan, or the Axis of each Sobol axis
+Plan = namedtuple("Plan", "family axes")
+# coefficients: a_1 to a_(d-1); m: m_1 to m_d
+Axis = namedtuple("Axis", "degree coefficients m")
+
+
+class Refused(Exception):
+    """A refusal, with its number of 01's table."""
+
+    def __init__(self, number):
+        super().__init__(number)
+        self.number = number
+
+
+def refuse_if(condition, number):
+    if condition:
+        raise Refused(number)
+
+
+# ---- plan bytes
+
+
+class Fields:
+    """The fields of a byte string, most significant bit first."""
+
+    def __init__(self, data):
+        self.bits = "".join(f"{byte:08b}" for byte in data)
+        self.place = 0
+
+    def take(self, width):
+        refuse_if(self.place + width > len(self.bits), 1)
+        field = self.bits[self.place : self.place + width]
+        self.place += width
+        return int(field or "0", 2)
+
+    def end(self):
+        """What is left fills the last byte with zeros."""
+        rest = self.bits[self.place :]
+        refuse_if(len(rest) >= 8 or "1" in rest, 10)
+
+
+@lru_cache(maxsize=4096)
+def read(data):
+    """The plan of a byte string."""
+    fields = Fields(data)
+    family = fields.take(2)
+    refuse_if(family == 3, 2)
+    count = fields.take(3)
+    refuse_if(count in (0, 7), 3)
+    read_axis = read_sobol_axis if family == SOBOL else read_base
+    axes = []
+    for _ in range(count):
+        axes.append(read_axis(fields, axes))
+    fields.end()
+    return Plan(family, tuple(axes))
+
+
+def read_base(fields, earlier):
+    base = fields.take(8) + 1
+    refuse_if(base == 1, 4)
+    refuse_if(any(gcd(base, other) != 1 for other in earlier), 5)
+    return base
+
+
+def read_sobol_axis(fields, earlier):
+    degree = fields.take(4)
+    refuse_if(degree > 12, 6)
+    coefficients = tuple(fields.take(1) for _ in range(degree - 1))
+    refuse_if(degree >= 1 and not is_primitive(degree, coefficients), 7)
+    refuse_if(any((degree, coefficients) == other[:2] for other in earlier), 9)
+    return Axis(degree, coefficients, tuple(read_odd(fields, i) for i in range(1, degree + 1)))
+
+
+def read_odd(fields, width):
+    m = fields.take(width)
+    refuse_if(m % 2 == 0, 8)
+    return m
+
+
+@lru_cache(maxsize=None)
+def is_primitive(degree, coefficients):
+    """Whether the least e above 0 for which x^d + a_1 x^(d-1) + .. + 1 divides x^e - 1 is 2^d - 1. Every e is tried in turn."""
+    polynomial = int("1" + "".join(map(str, coefficients)) + "1", 2)
+    e, power = 0, 1  # x^e reduced
+    while e == 0 or power != 1:
+        e, power = e + 1, power << 1
+        if power >> degree:
+            power ^= polynomial
+    return e == 2**degree - 1
+
+
+# ---- points
+
+
+@lru_cache(maxsize=None)
+def depth(base):
+    """The least k with base^k at or above 2^32."""
+    k = 0
+    while base**k < INDEXES:
+        k += 1
+    return k
+
+
+def denominator(plan, axis):
+    return SOBOL_DENOMINATOR if plan.family == SOBOL else axis ** depth(axis)
+
+
+def halton_numerator(base, index, image):
+    """The sum of image(a_j) b^(k-1-j), with a_j the digits of the index, lowest first."""
+    k = depth(base)
+    return sum(image[index // base**j % base] * base ** (k - 1 - j) for j in range(k))
+
+
+@lru_cache(maxsize=None)
+def faure(digit, base):
+    """The image of a digit under Faure's permutation, as document 001 defines it."""
+    if base == 2:
+        return digit
+    half = base // 2
+    if base % 2 == 0:
+        return 2 * faure(digit, half) if digit < half else 2 * faure(digit - half, half) + 1
+    if digit == half:
+        return half
+    r = faure(digit, base - 1) if digit < half else faure(digit - 1, base - 1)
+    return r if r < half else r + 1
+
+
+@lru_cache(maxsize=None)
+def images(family, base):
+    return tuple(faure(digit, base) if family == PERMUTED else digit for digit in range(base))
+
+
+@lru_cache(maxsize=1024)
+def direction_numbers(axis):
+    """v_1 to v_32 of a Sobol axis."""
+    degree, coefficients, m = axis[0], axis[1], list(axis[2])
+    if degree == 0:
+        m = [1] * 32
+    while len(m) < 32:
+        term = 2**degree * m[-degree] ^ m[-degree]
+        for i, a in enumerate(coefficients, 1):
+            term ^= 2**i * a * m[-i]
+        m.append(term)
+    return tuple(m[i - 1] * 2 ** (32 - i) for i in range(1, 33))
+
+
+def sobol_numerator(axis, index):
+    """The direction numbers at the ones of index xor (index >> 1)."""
+    gray, x = index ^ index >> 1, 0
+    for i, v in enumerate(direction_numbers(axis)):
+        if gray >> i & 1:
+            x ^= v
+    return x
+
+
+def point(plan, index):
+    if plan.family == SOBOL:
+        return tuple(sobol_numerator(axis, index) for axis in plan.axes)
+    return tuple(halton_numerator(base, index, images(plan.family, base)) for base in plan.axes)
+
+
+def next_sobol_point(plan, index, here):
+    """The point after that of `index`: xor v_c, c the place of the rightmost zero bit of `index`."""
+    c = 1
+    while index >> (c - 1) & 1:
+        c += 1
+    return tuple(x ^ direction_numbers(axis)[c - 1] for x, axis in zip(here, plan.axes))
+
+
+@lru_cache(maxsize=4)
+def run_points(plan, start, count):
+    """The points of a run: Halton's one by one, Sobol's by the stepping rule from the first."""
+    if plan.family != SOBOL:
+        return [point(plan, index) for index in range(start, start + count)]
+    points = []
+    for index in range(start, start + count):
+        points.append(next_sobol_point(plan, index - 1, points[-1]) if points else point(plan, index))
+    return points
+
+
+# ---- windows
+
+
+def digit_count(base, n):
+    """The least K with base^K above n."""
+    k = 0
+    while base**k <= n:
+        k += 1
+    return k
+
+
+def bound(plan, count):
+    if plan.family == SOBOL:
+        return 0
+    product = 1
+    for base in plan.axes:
+        product *= digit_count(base, count) * (base - 1) + 1
+    return product
+
+
+def count_inside(plan, start, count, cuts):
+    """How many points of the run have numerator x q below u x denominator on every axis."""
+    tests = [(q, u * denominator(plan, axis)) for (u, q), axis in zip(cuts, plan.axes)]
+    return sum(all(x * q < limit for x, (q, limit) in zip(here, tests)) for here in run_points(plan, start, count))
+
+
+def read_window(plan, window):
+    """The cuts (u, q) of window bytes."""
+    refuse_if(len(window) != 8 * len(plan.axes), 14)
+    words = [int.from_bytes(window[i : i + 4], "big") for i in range(0, len(window), 4)]
+    cuts = list(zip(words[::2], words[1::2]))
+    refuse_if(any(not 1 <= q <= 2**24 or u > q for u, q in cuts), 14)
+    return cuts
+
+
+# ---- the C calls: each answers its number, and the bytes that it writes
+
+
+def written(numbers):
+    return b"".join(number.to_bytes(8, "big") for number in numbers)
+
+
+def point_call(data, index, room):
+    try:
+        plan = read(data)
+        refuse_if(index >= INDEXES, 11)
+        refuse_if(room < 8 * len(plan.axes), 13)
+        return 0, written(point(plan, index))
+    except Refused as refusal:
+        return refusal.number, b""
+
+
+def count_call(data, start, count, window, room):
+    try:
+        plan = read(data)
+        refuse_if(start + count > INDEXES, 11)
+        cuts = read_window(plan, window)
+        refuse_if(room < 16, 13)
+        return 0, written((count_inside(plan, start, count, cuts), bound(plan, count)))
+    except Refused as refusal:
+        return refusal.number, b""

@@ -1,0 +1,22 @@
+"""When two answers disagree."""
+from library import buffer_after, numbers
+
+
+class Disagreement(Exception):
+    pass
+
+
+def same_answer(question, ours, peer, theirs):
+    """Compares the library's code and buffer with a peer's code and written bytes."""
+    code, written = theirs
+    if ours == (code, buffer_after(written)):
+        return
+    said, meant = shown(ours[0], ours[1][: len(written)]), shown(code, written)
+    touched = f" but leaves the buffer {ours[1].hex()}" if said == meant else ""
+    raise Disagreement(f"{question}: hisowake answers {said}{touched}, {peer} {meant}")
+
+
+def shown(code, written):
+    if code != 0:
+        return f"refusal {code}"
+    return " ".join(map(str, numbers(written))) or "no refusal"
