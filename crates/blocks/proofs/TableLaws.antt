@@ -1,12 +1,11 @@
--- Tables of images and of first points: how each grows, and how every later run of points reads from them. Assumes nothing.
-use mathlib.Core.Path.{_≡_, refl, sym, ap, ap₂, _∙_, subst}
+-- Tables of first points: how they grow, and how every later run of points reads from them. Assumes nothing.
+use mathlib.Core.Path.{_≡_, sym, ap, ap₂, _∙_, subst}
 use mathlib.Core.Logic.{⊎-elim}
 use mathlib.Core.List.{List}
 use Prim.Native.Nat.{ℕ, _+_, _-_, _*_, _/_, _%_, _^_, _<_, _≤_}
 use native.Mathlib.Nat.{one-mul, mul-comm, add-mul, pow-zero, mul-le-mul-right, lt-of-lt-of-le, div-add-mod'}
 use native.Mathlib.Omega.{arith}
-use lib.ListN.{length, getD, set}
-use lib.Seq.{getD-set-same, getD-set-other}
+use lib.ListN.{getD}
 use Rattle.numbers.specs.Depth.{depth, denominator}
 use Rattle.numbers.proofs.Cases.{lt-or-ge}
 use Rattle.numbers.proofs.DigitLaws.{pow-pos, pow-one-more, pow-up-to}
@@ -14,21 +13,11 @@ use Rattle.numbers.proofs.NumeratorLaws.{numerator-zero, numerator-lt, numerato
 use Rattle.numbers.proofs.DepthLaws.{depth-reaches, denominator-lt}
 use Rattle.permutation.specs.Permutes.{Permutes}
 use Rattle.permutation.specs.Families.{imageOf}
+use Rattle.images.specs.Images.{imageIn, Imaged}
 use Rattle.halton.specs.Axis.{numerator}
 use Rattle.blocks.specs.Filling.{Column, haltonFrom}
-use Rattle.blocks.specs.Tables.{imageIn, Imaged, Images, Starts, Table, shifted, tabled}
+use Rattle.blocks.specs.Tables.{Images, Starts, Table, shifted, tabled}
 use Rattle.blocks.proofs.SplitLaws.{numerator-split, numerator-digit, weight-next}
-
-pub imaged-none : (σ : ℕ → ℕ) (l : List ℕ) → Imaged σ 0 l
-imaged-none σ l = record { at = λ d h. absurd (omega arith) }
-
-pub imaged-more : {σ : ℕ → ℕ} {b : ℕ} {l : List ℕ} → Imaged σ b l → (v : ℕ) → b < length l → v ≡ σ b → Imaged σ (b + 1) (set l b v)
-imaged-more {σ} {b} {l} a v h e = record {
-  at = λ d k. ⊎-elim (λ q. getD-set-other l b d v 0 (λ w. absurd (omega arith)) ∙ a .at d q) (λ q. here d (omega arith)) (lt-or-ge d b);
-}
-  where
-    here : (d : ℕ) → d ≡ b → imageIn (set l b v) d ≡ σ d
-    here d q = rw q (getD-set-same l b v 0 h ∙ e)
 
 -- an axis whose table of images is l
 module _ {b : ℕ} {l : List ℕ} (a : Images b l) (big : 2 ≤ b) where

@@ -4,28 +4,16 @@ ghost use mathlib.Core.Path.{_≡_};
 ghost use Prim.Native.Nat.{ℕ, _+_, _-_, _*_, _^_, _<_, _≤_};
 ghost use lib.ListN.{length, getD};
 ghost use Rattle.numbers.specs.Depth.{denominator};
-ghost use Rattle.permutation.specs.Families.{imageOf};
+ghost use Rattle.images.specs.Images.{imageIn};
 ghost use Rattle.halton.specs.Axis.{numerator};
 ghost use Rattle.blocks.specs.Filling.{Column, haltonFrom, sobolFrom};
-ghost use Rattle.blocks.specs.Tables.{imageIn, Images, Imaged, Table, shifted, tabled};
+ghost use Rattle.blocks.specs.Tables.{Images, Table, shifted, tabled};
 
 // The smaller of two numbers.
 pub fn least(a: usize, b: usize) -> usize
     ensures { λ r. ⌜ (r ≤ a) × (r ≤ b) × ((x : ℕ) → x < a → x < b → x < r) ⌝ }
 {
     if a < b { a } else { b }
-}
-
-// The images of the digits of base `b`, in the front of `l`.
-fn images(family: u64, b: u64, l: &mut [u64])
-    requires { ⌜ (2 ≤ b) × (b ≤ 256) × (256 ≤ length (now l)) ⌝ }
-    ensures { λ r. ⌜ Imaged (imageOf family b) b (now (l .exit)) ⌝ }
-{
-    let mut d = 0;
-    while d < b {
-        l[d as usize] = permutation::image(family, b, d);
-        d += 1;
-    }
 }
 
 // The numerator of index `n` over the images `l`, by Horner's rule over the digits of `n`, lowest first. It divides by `b` twice: where r × b is
@@ -160,7 +148,7 @@ pub fn halton_column(
     ensures { λ v. ⌜ Column (haltonFrom family b n) lo hi s j (now (out .entry)) (now (out .exit)) ⌝ }
 {
     let mut l = [0; 256];
-    images(family, b, &mut l);
+    images::images(family, b, &mut l);
     let mut t = [0; 256];
     let limit = table_limit(b, hi - lo);
     let size = table(b, &l, limit, &mut t);

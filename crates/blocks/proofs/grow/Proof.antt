@@ -4,7 +4,8 @@ use Prim.Native.Nat.{ℕ, _+_, _-_, _*_, _^_, _≤_, _<_}
 use native.Mathlib.Omega.{arith}
 use denote.Ref.{now}
 use lib.ListN.{length}
-use Rattle.blocks.specs.Tables.{imageIn, Starts}
+use Rattle.images.specs.Images.{imageIn}
+use Rattle.blocks.specs.Tables.{Starts}
 use Rattle.blocks.proofs.TableLaws.{point-below, part-first, part-more, table-more, table-start}
 use native.Mathlib.Nat.{mul-le-mul-right, mul-comm, add-mul}
 use Rattle.blocks.proofs.grow.Statement.{statement}

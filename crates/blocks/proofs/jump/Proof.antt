@@ -6,7 +6,7 @@ use native.Mathlib.Omega.{arith}
 use denote.Ref.{now}
 use lib.ListN.{getD}
 use native.Mathlib.Nat.{div-le-self, div-mul-le-self, div-lt-self, mod-lt, mod-eq-sub-div-mul, mul-le-mul, mul-le-mul-left, pos-of-ne-zero}
-use Rattle.blocks.specs.Tables.{imageIn}
+use Rattle.images.specs.Images.{imageIn}
 use Rattle.numbers.proofs.ReciprocalLaws.{reciprocal, reciprocal-over}
 use Rattle.numbers.proofs.DepthLaws.{rising-pos}
 use Rattle.halton.proofs.ReversingLaws.{Reversing, reversing-first, reversing-next, reversing-small, reversing-zero, reversing-lt, reversing-whole}

@@ -5,7 +5,8 @@ use native.Mathlib.Omega.{arith}
 use denote.Ref.{now}
 use lib.ListN.{length, length-set}
 use Rattle.numbers.specs.Depth.{denominator}
-use Rattle.blocks.specs.Tables.{imageIn, Table}
+use Rattle.images.specs.Images.{imageIn}
+use Rattle.blocks.specs.Tables.{Table}
 use Rattle.blocks.proofs.TableLaws.{table-none, table-weight, table-pos}
 use native.Mathlib.Nat.{mul-le-mul, mul-le-mul-left, mul-one, mul-assoc, mul-comm}
 use lib.Seq.{getD-set-same}

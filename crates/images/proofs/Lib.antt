@@ -1,0 +1,3 @@
+-- Laws of the tables of images.
+pub mod ImageLaws
+pub mod HalfLaws

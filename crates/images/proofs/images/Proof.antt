@@ -1,0 +1,42 @@
+-- `images::images` meets its contract: one law of the families an arm. Assumes nothing.
+use native.Mathlib.Omega.{arith}
+use Rattle.permutation.specs.Families.{imageOf}
+use Rattle.permutation.proofs.FamilyLaws.{image-permuted, image-plain}
+use Rattle.images.proofs.ImageLaws.{imaged-as}
+use borrow.Author.Needs.{needs}
+use Rattle.images.proofs.images.Statement.{statement}
+use Rattle.images.proofs.images.Tie as tie
+
+faure-images-requires : tie.Need-faure-images-requires
+faure-images-requires c κs = search needs
+
+plain-images-requires : tie.Need-plain-images-requires
+plain-images-requires c κs = search needs
+
+same-length : tie.Need-same-length
+same-length c = search needs
+
+returns : tie.Need-returns
+returns c =
+    let a = c .before .before .before .before .before .before .args in
+    imaged-as (c .before .before .faure-images .ensures) (imageOf (a .family) (a .b)) (λ d h. image-permuted (a .family) (a .b) d (omega arith))
+
+same-length-2 : tie.Need-same-length-2
+same-length-2 c = search needs
+
+returns-2 : tie.Need-returns-2
+unfolding imageOf
+returns-2 c =
+    let a = c .before .before .before .before .before .before .args in
+    imaged-as (c .before .before .plain-images .ensures) (imageOf (a .family) (a .b)) (λ d h. image-plain (a .family) (a .b) d (λ e. omega arith))
+
+pub images-spec : {M : Type 1} → statement M
+images-spec =
+    tie.close
+    (tie.spec
+    faure-images-requires
+    plain-images-requires
+    same-length
+    returns
+    same-length-2
+    returns-2)

@@ -1,0 +1,90 @@
+// The images of all digits of a base as a table. Faure's are made in place from those of base b / 2, with about two stores a digit in all.
+ghost use mathlib.Core.Path.{_≡_};
+ghost use Prim.Native.Nat.{_/_, _%_, _<_, _≤_};
+ghost use lib.ListN.{length};
+ghost use Rattle.permutation.specs.Faure.{openGap, faure};
+ghost use Rattle.permutation.specs.Families.{imageOf};
+ghost use Rattle.images.specs.Images.{Imaged};
+
+// The digits of base `b`, each itself, in the front of `l`.
+fn plain_images(b: usize, l: &mut [u64])
+    requires { ⌜ (b ≤ 256) × (256 ≤ length (now l)) ⌝ }
+    ensures { λ r. ⌜ Imaged (imageOf 0 b) b (now (l .exit)) ⌝ }
+{
+    let mut d = 0;
+    while d < b {
+        l[d] = d as u64;
+        d += 1;
+    }
+}
+
+// Makes the images of base b / 2 in `l` those of the even base `b`: twice each in the lower half, and one more in the upper.
+fn even_images(b: usize, l: &mut [u64])
+    requires { ⌜ (4 ≤ b) × (b ≤ 256) × (b % 2 ≡ 0) × (256 ≤ length (now l)) × Imaged (faure (b / 2)) (b / 2) (now l) ⌝ }
+    ensures { λ r. ⌜ Imaged (faure b) b (now (l .exit)) ⌝ }
+{
+    let h = b / 2;
+    let mut k = 0;
+    while k < h {
+        let lower = 2 * l[k];
+        let upper = lower + 1;
+        l[k] = lower;
+        l[h + k] = upper;
+        k += 1;
+    }
+}
+
+// The image `x` with the gap at the centre `c` opened: from `c` up it is one more.
+fn raise(c: u64, x: u64) -> u64
+    requires { ⌜ x < 256 ⌝ }
+    ensures { λ r. ⌜ r ≡ openGap c x ⌝ }
+{
+    if x < c { x } else { x + 1 }
+}
+
+// Makes the images of base b / 2 in `l` those of the odd base `b`: the even rule, then the odd, which puts the centre between the halves.
+fn odd_images(b: usize, l: &mut [u64])
+    requires { ⌜ (5 ≤ b) × (b ≤ 256) × (b % 2 ≡ 1) × (256 ≤ length (now l)) × Imaged (faure (b / 2)) (b / 2) (now l) ⌝ }
+    ensures { λ r. ⌜ Imaged (faure b) b (now (l .exit)) ⌝ }
+{
+    let c = b / 2;
+    let mut k = 0;
+    while k < c {
+        let x = 2 * l[k];
+        let low = raise(c as u64, x);
+        let high = raise(c as u64, x + 1);
+        l[k] = low;
+        l[c + 1 + k] = high;
+        k += 1;
+    }
+    l[c] = c as u64;
+}
+
+// Faure's images of the digits of base `b`, in the front of `l`. Bases 2 and 3 keep their digits.
+fn faure_images(b: usize, l: &mut [u64])
+    requires { ⌜ (2 ≤ b) × (b ≤ 256) × (256 ≤ length (now l)) ⌝ }
+    ensures { λ r. ⌜ Imaged (faure b) b (now (l .exit)) ⌝ }
+{
+    if b < 4 {
+        plain_images(b, l);
+        return;
+    }
+    faure_images(b / 2, l);
+    if b % 2 == 0 {
+        even_images(b, l);
+    } else {
+        odd_images(b, l);
+    }
+}
+
+// The images of the digits of base `b` in a plan of this family, in the front of `l`.
+pub fn images(family: u64, b: u64, l: &mut [u64])
+    requires { ⌜ (2 ≤ b) × (b ≤ 256) × (256 ≤ length (now l)) ⌝ }
+    ensures { λ r. ⌜ Imaged (imageOf family b) b (now (l .exit)) ⌝ }
+{
+    if family == 1 {
+        faure_images(b as usize, l);
+    } else {
+        plain_images(b as usize, l);
+    }
+}
