@@ -6,7 +6,8 @@ use Prim.Native.Nat.{ℕ, zero, suc, _≤_, _<_}
 use native.Mathlib.Omega.{arith}
 use lib.Dec.{lit<, lit≤}
 use Rattle.binary.specs.Polynomial.{Degree, Divides, Primitive, timesX, onlyLast, isPrimitive}
-use Rattle.binary.proofs.PolynomialLaws.{powerOfX, divides-of-one, one-of-divides, is-primitive-iff}
+use Rattle.binary.specs.Power.{powerOfX}
+use Rattle.binary.proofs.PolynomialLaws.{divides-of-one, one-of-divides, is-primitive-iff}
 
 -- x + 1
 test-3 : isPrimitive 1 3 ≡ true

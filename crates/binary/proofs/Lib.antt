@@ -3,5 +3,7 @@ pub mod XorLaws
 pub mod GrayLaws
 pub mod MixLaws
 pub mod PolynomialLaws
+pub mod PowerLaws
+pub mod OrderLaws
 pub mod DegreeLaws
 pub mod Examples

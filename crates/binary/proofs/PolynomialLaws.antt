@@ -15,15 +15,11 @@ use lib.Bits.{bitXor, xor-zero-r, xor-comm, xor-self, xor-lt, xor-shr}
 use borrow.Author.Tests.{lt-ltb, le-ltb, eq-eqb, ne-eqb, eqb-true, eqb-false}
 use Rattle.binary.specs.Gf2.{times, productIn, product}
 use Rattle.binary.specs.Polynomial.{Degree, Divides, Primitive, timesX, unless, onlyLast, isPrimitive}
+use Rattle.binary.specs.Power.{powerOfX}
 use Rattle.numbers.specs.Choice.{choose}
 use Rattle.numbers.proofs.Cases.{lt-or-ge}
 use Rattle.binary.proofs.XorLaws.{xor-half, xor-assoc, xor-swap, xor-cancel, xor-eq-zero, xor-double}
 use Rattle.binary.proofs.MixLaws.{times-digit-xor, times-lt}
-
--- x^e modulo p; top is 2^d
-unfoldable pub powerOfX : ℕ → ℕ → ℕ → ℕ
-powerOfX top p zero = 1
-powerOfX top p (suc e) = timesX top p (powerOfX top p e)
 
 -- ---- the product, by halves; it is linear
 
@@ -76,18 +72,18 @@ top-digit k x a =
     (le-of-suc-le-suc (div-lt-iff-lt-mul (pow-pos k) .1 (omega (arith, pow-suc 2 k, a .high))))
     (le-div-iff-mul-le (pow-pos k) .1 (omega (arith, a .low)))
 
-no-digit : (k x : ℕ) → x < 2 ^ k → x / 2 ^ k ≡ 0
+pub no-digit : (k x : ℕ) → x < 2 ^ k → x / 2 ^ k ≡ 0
 no-digit k x h = lt-one (div-lt-iff-lt-mul (pow-pos k) .1 (omega arith))
 
 -- two numbers of one degree: the leading digits cancel
-top-cancel : (k x y : ℕ) → Degree k x → Degree k y → bitXor x y < 2 ^ k
+pub top-cancel : (k x y : ℕ) → Degree k x → Degree k y → bitXor x y < 2 ^ k
 top-cancel k x y a b = omega (arith, div-lt-iff-lt-mul {x = bitXor x y} (pow-pos k) .0 (le-of-eq (ap suc gone)))
   where
     gone : bitXor x y / 2 ^ k ≡ 0
     gone = xor-shr x y k ∙ ap₂ bitXor (top-digit k x a) (top-digit k y b)
 
 -- a lower number leaves the degree
-top-keep : (k x y : ℕ) → y < 2 ^ k → Degree k x → Degree k (bitXor y x)
+pub top-keep : (k x y : ℕ) → y < 2 ^ k → Degree k x → Degree k (bitXor y x)
 top-keep k x y h a =
     record {
       low = le-trans (le-of-eq (sym (one-mul (2 ^ k)) ∙ ap (λ (n : ℕ). n * 2 ^ k) (sym (xor-shr y x k ∙ ap₂ bitXor (no-digit k y h) (top-digit k x a)))))

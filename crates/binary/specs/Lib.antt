@@ -1,3 +1,4 @@
 pub mod Gray
 pub mod Gf2
 pub mod Polynomial
+pub mod Power

@@ -1,28 +1,16 @@
 -- What fits a 64-bit word, for bases up to 256, runs of at most 2^32 steps and six axes: no base's factor passes that of 256, which is tested
 -- for each base. Assumes nothing.
 use mathlib.Core.Path.{_≡_, refl}
-use mathlib.Core.Logic.{⊎-elim}
-use mathlib.Core.Bool.{Bool, true, _&&_, and-eq-true-iff}
+use mathlib.Core.Bool.{Bool, true}
 use Prim.Native.Nat.{ℕ, zero, suc, _+_, _-_, _^_, _≤_, _<_}
-use native.Mathlib.Nat.{le-refl, le-trans, le-of-suc-le-suc, eq-or-lt-of-le, lt-of-le-of-lt, mul-le-mul, mul-le-mul-right, pow-suc, pow-le-pow-right}
+use native.Mathlib.Nat.{le-refl, le-trans, lt-of-le-of-lt, mul-le-mul, mul-le-mul-right, pow-suc, pow-le-pow-right}
 use native.Mathlib.Omega.{arith}
 use lib.Dec.{leb, lit<, lit≤}
 use borrow.Author.Tests.{leb-true}
 use Rattle.numbers.specs.Digits.{digitCount, digitCountIn}
+use Rattle.numbers.proofs.EachLaws.{each, each-at}
 use Rattle.numbers.proofs.DigitLaws.{digit-count-mono}
 use Rattle.discrepancy.specs.Bound.{CutAxis, factor, bound}
-
--- each number below n passes the test
-unfoldable each : (ℕ → Bool) → ℕ → Bool
-each p zero = true
-each p (suc n) = p n && each p n
-
-each-at : (p : ℕ → Bool) (n i : ℕ) → each p n ≡ true → i < n → p i ≡ true
-unfolding each
-each-at p zero i e h = absurd (omega arith)
-each-at p (suc n) i e h =
-    let both = and-eq-true-iff (p n) (each p n) .0 e in
-    ⊎-elim (λ (same : i ≡ n). rw same (both .0)) (each-at p n i (both .1)) (eq-or-lt-of-le (le-of-suc-le-suc h))
 
 -- at the longest run
 abbrev factor-small : ℕ → Bool

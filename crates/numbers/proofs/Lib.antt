@@ -1,5 +1,6 @@
 -- Laws of the definitions, for this crate's functions and for every crate above.
 pub mod Cases
+pub mod EachLaws
 pub mod GcdLaws
 pub mod InverseLaws
 pub mod DigitLaws

@@ -154,7 +154,7 @@ fn not_primitive(d: u64, p: u64) -> bool
     if d == 0 {
         return false;
     }
-    !sobol::is_primitive(d, p)
+    !primitive::is_primitive(d, p)
 }
 
 // The refusal after the coefficients: that of a repeated polynomial comes before those of the m's.

@@ -1,8 +1,8 @@
-// The Sobol axis: primitive polynomials, direction numbers, points by jump and by step.
+// The Sobol axis: direction numbers, points by jump and by step.
 ghost use mathlib.Core.Path.{_≡_};
 ghost use Prim.Native.Nat.{_+_, _^_, _<_, _≤_};
 ghost use lib.ListN.{length};
-ghost use Rattle.binary.specs.Polynomial.{Degree, degreeOf, timesX, isPrimitive};
+ghost use Rattle.binary.specs.Polynomial.{degreeOf};
 ghost use Rattle.sobol.specs.Directions.{mRule, mNext, mList, scaled, directions, AllOddBelow};
 ghost use Rattle.sobol.specs.Stepping.{stepped};
 
@@ -13,33 +13,6 @@ pub fn degree(p: u64) -> usize
 {
     let k = numbers::digit_count(2, p);
     if k == 0 { 0 } else { (k - 1) as usize }
-}
-
-// x times `r`, modulo the polynomial `p`; `top` is 2^d.
-fn times_x(r: u64, p: u64, top: u64) -> u64
-    requires { ⌜ r < 2 ^ 63 ⌝ }
-    ensures { λ s. ⌜ s ≡ timesX top p r ⌝ }
-{
-    let s = r * 2;
-    if s < top { s } else { s ^ p }
-}
-
-// Whether `p`, of degree `d`, is primitive: the powers of x are taken until 1 comes.
-pub fn is_primitive(d: u64, p: u64) -> bool
-    requires { ⌜ (1 ≤ d) × (d ≤ 12) × Degree d p ⌝ }
-    ensures { λ r. ⌜ r ≡ isPrimitive d p ⌝ }
-{
-    let top: u64 = 1 << d;
-    let mut r = times_x(1, p, top);
-    let mut left = top - 2;
-    while 0 < left {
-        if r == 1 {
-            return false;
-        }
-        r = times_x(r, p, top);
-        left -= 1;
-    }
-    r == 1
 }
 
 // m_(i+1) by the recurrence, from m_1 to m_i.
