@@ -73,7 +73,7 @@ fn counting(label: &[u8], s: Sampler, start: u64, count: u64, w: &[u64]) {
     report(b"  bound", r.bound);
 }
 
-// Windows over the bases 2 and 3: whole and empty cuts, a point on its cut, and K from N and not from the last index.
+// Windows over the bases 2 and 3: R8, and whole and empty cuts.
 fn windows(s: Sampler) {
     counting(
         b"count 1/2 1/3 over start 0 count 6",
@@ -96,6 +96,10 @@ fn windows(s: Sampler) {
         1000,
         &[2, 2, 0, 3],
     );
+}
+
+// A point on its cut and just below it, K from N and not from the last index, and a run of no points.
+fn small_runs(s: Sampler) {
     counting(
         b"count 1/2 1/1 over start 1 count 1",
         s,
@@ -141,5 +145,6 @@ fn main() {
     traps();
     second_index();
     windows(r.state);
+    small_runs(r.state);
     wrong_windows(r.state);
 }
