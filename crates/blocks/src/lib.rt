@@ -26,14 +26,10 @@ fn jump(b: u64, l: &[u64], n: u64) -> u64
     let mut r = n / b;
     let mut x = l[(n - r * b) as usize];
     let mut p = b;
-    while r != 0 {
+    while p < 4294967296 {
         let q = r * m / 4294967296;
         x = x * b + l[(r - q * b) as usize];
         r = q;
-        p = p * b;
-    }
-    while p < 4294967296 {
-        x = x * b;
         p = p * b;
     }
     x

@@ -1,15 +1,14 @@
 -- The reversing loop: what it holds after some digits of the index, that one more digit keeps it, and what it has made at the depth.
 -- Over any map σ of the digits. Assumes nothing.
 use mathlib.Core.Path.{_≡_, refl, sym, ap, ap₂, _∙_, subst}
-use mathlib.Core.Logic.{⊎-elim}
-use Prim.Native.Nat.{ℕ, _+_, _*_, _/_, _%_, _^_, _<_, _≤_}
-use native.Mathlib.Nat.{zero-add, add-zero, zero-mul, one-mul, zero-div, zero-mod, div-eq-of-lt}
+use Prim.Native.Nat.{ℕ, _+_, _-_, _*_, _/_, _%_, _^_, _<_, _≤_}
+use native.Mathlib.Nat.{zero-add, zero-mul, one-mul, mod-eq-sub-div-mul}
 use native.Mathlib.Omega.{arith}
-use Rattle.numbers.proofs.Cases.{lt-or-ge}
 use Rattle.numbers.specs.Digits.{digit, numeratorTo}
 use Rattle.numbers.proofs.DigitLaws.{quotient-none, quotient-more}
 use Rattle.numbers.proofs.NumeratorLaws.{numerator-none, numerator-last, numerator-lt}
 use Rattle.numbers.proofs.DepthLaws.{Rising, rising-none, rising-more, rising-depth}
+use Rattle.numbers.proofs.ReciprocalLaws.{Divided}
 use Rattle.halton.specs.Axis.{numerator}
 
 -- x is made of the first digits of n, `rest` is what is left of n, and p the power of b for the next digit
@@ -33,6 +32,10 @@ module _ {σ : ℕ → ℕ} {b n x rest p : ℕ} (a : Reversing σ b n x rest p)
         made = ap₂ (λ (y q : ℕ). y * b + σ (q % b)) (a .made) (a .left) ∙ sym (numerator-last σ b (a .digits) n);
       }
 
+  -- the same where the quotient is taken by a product
+  pub reversing-divided : {q : ℕ} → Divided b rest q → p < 2 ^ 32 → Reversing σ b n (x * b + σ (rest - q * b)) q (p * b)
+  reversing-divided d l = rw (d .remainder, d .quotient) (reversing-next l)
+
   -- what is made stays below the power
   pub reversing-lt : ((d : ℕ) → d < b → σ d < b) → x < p
   reversing-lt below = omega (arith, a .power .is, a .made, numerator-lt σ b below (omega arith) (a .digits) n)
@@ -41,19 +44,8 @@ module _ {σ : ℕ → ℕ} {b n x rest p : ℕ} (a : Reversing σ b n x rest p)
   unfolding numerator
   reversing-whole h = a .made ∙ ap (λ (k : ℕ). numeratorTo σ b k n) (rising-depth (a .power) big h)
 
-  -- something is left of the index, so the power is not past it
-  pub reversing-small : n < 2 ^ 32 → (rest ≡ 0 → ⊥) → p < 2 ^ 32
-  reversing-small l f =
-      ⊎-elim (λ q. absurd (f (a .left ∙ div-eq-of-lt q))) (λ q. omega (arith, a .power .is)) (lt-or-ge n (b ^ a .digits))
-
-  -- nothing is left: the digit is 0
-  pub reversing-zero : rest ≡ 0 → σ 0 ≡ 0 → p < 2 ^ 32 → Reversing σ b n (x * b) rest (p * b)
-  reversing-zero e z l =
-      subst (λ (y : ℕ). Reversing σ b n y rest (p * b)) (rw (e, zero-mod b, z) (add-zero (x * b)))
-      (subst (λ (y : ℕ). Reversing σ b n (x * b + σ (rest % b)) y (p * b)) (rw (e, zero-div b) refl) (reversing-next l))
-
 -- the first digit
-pub reversing-first : (σ : ℕ → ℕ) (b n : ℕ) → 2 ≤ b → Reversing σ b n (σ (n % b)) (n / b) b
+pub reversing-first : (σ : ℕ → ℕ) (b n : ℕ) → 2 ≤ b → Reversing σ b n (σ (n - n / b * b)) (n / b) b
 reversing-first σ b n l =
-    subst (λ (y : ℕ). Reversing σ b n y (n / b) b) (rw zero-mul (zero-add _))
+    subst (λ (y : ℕ). Reversing σ b n y (n / b) b) (rw zero-mul (zero-add _) ∙ ap σ (mod-eq-sub-div-mul n b))
     (subst (λ (y : ℕ). Reversing σ b n (0 * b + σ (n % b)) (n / b) y) (one-mul b) (reversing-next (reversing-none σ b n) l (omega arith)))

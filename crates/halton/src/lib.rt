@@ -10,17 +10,20 @@ pub struct Reversed {
     pub numerator: u64,
 }
 
-// The numerator of index `n` in base `b`: the reversing loop, by Horner's rule over the digits of `n`, lowest first, to the depth.
+// The numerator of index `n` in base `b`: the reversing loop, by Horner's rule over the digits of `n`, lowest first, to the depth. It divides by
+// `b` twice: where r × b is below 2^32, r / b is r × (2^32 / b + 1) / 2^32.
 pub fn jump(family: u64, b: u64, n: u64) -> Reversed
     requires { ⌜ (2 ≤ b) × (b ≤ 256) × (n < 2 ^ 32) ⌝ }
     ensures { λ r. ⌜ r .numerator ≡ numerator (imageOf family b) b n ⌝ }
 {
-    let mut x = 0;
-    let mut rest = n;
-    let mut p = 1;
+    let m = 4294967296 / b + 1;
+    let mut rest = n / b;
+    let mut x = permutation::image(family, b, n - rest * b);
+    let mut p = b;
     while p < 4294967296 {
-        x = x * b + permutation::image(family, b, rest % b);
-        rest = rest / b;
+        let q = rest * m / 4294967296;
+        x = x * b + permutation::image(family, b, rest - q * b);
+        rest = q;
         p = p * b;
     }
     Reversed { numerator: x }

@@ -1,22 +1,16 @@
 -- Points by arrays as the loops make them: a point's words one by one, and many points as rows of a buffer. Assumes nothing.
 use mathlib.Core.Path.{_≡_, refl, sym, _∙_}
 use mathlib.Core.List.{List}
-use Prim.Native.Nat.{ℕ, zero, suc, _*_, _<_, _≤_}
+use Prim.Native.Nat.{ℕ, zero, suc, _*_, _<_}
 use native.Mathlib.Nat.{zero-mul, suc-mul}
 use native.Mathlib.Omega.{arith}
 use lib.ListN.{length, getD, length-append}
 use Rattle.numbers.specs.Listed.{listed}
-use Rattle.numbers.proofs.ListedLaws.{listed-length, listed-at, padded-length, padded-at}
+use Rattle.numbers.proofs.ListedLaws.{listed-length, listed-at, padded-at}
 use Rattle.blocks.specs.Filling.{rows}
 use Rattle.points.specs.Arrays.{numeratorAt, numeratorFrom, pointAt, pointsAt}
 
 module _ (family axes : ℕ) (bases vs : List ℕ) where
-  pub point-at-length : (n : ℕ) → axes ≤ 6 → length (pointAt family axes bases vs n) ≡ 6
-  unfolding pointAt
-  point-at-length n h =
-      let f = numeratorAt family bases vs n in
-      padded-length 6 (listed f axes) (omega (arith, listed-length f axes))
-
   pub point-at-word : (n i : ℕ) → i < axes → getD (pointAt family axes bases vs n) i 0 ≡ numeratorAt family bases vs n i
   unfolding pointAt
   point-at-word n i h =

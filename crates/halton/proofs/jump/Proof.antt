@@ -1,71 +1,91 @@
--- Each turn takes one digit, by Horner's rule; at 2^32 or above the power says that the depth is reached. Assumes nothing.
-use Prim.Native.Nat.{_+_, _-_, _*_, _/_, _%_, _^_, _<_}
-use native.Mathlib.Nat.{mod-lt}
+-- `jump` meets its contract: the first digit by a division, each turn one more by a product; at 2^32 or above the power says that the depth is
+-- reached. Assumes nothing.
+use Prim.Native.Nat.{_+_, _-_, _*_, _/_, _^_, _<_}
+use native.Mathlib.Nat.{div-le-self, div-mul-le-self}
 use native.Mathlib.Omega.{arith}
 use Rattle.numbers.proofs.DepthLaws.{rising-pos, rising-fits, rising-nears}
+use Rattle.numbers.proofs.ReciprocalLaws.{Divided, divided, remainder-lt}
 use Rattle.permutation.specs.Families.{imageOf}
 use Rattle.permutation.proofs.FamilyLaws.{image-permutes}
-use Rattle.halton.proofs.ReversingLaws.{Reversing, reversing-none, reversing-next, reversing-lt, reversing-whole}
+use Rattle.halton.proofs.ReversingLaws.{Reversing, reversing-first, reversing-divided, reversing-lt, reversing-whole}
 use Rattle.halton.proofs.jump.Statement.{statement}
 use Rattle.halton.proofs.jump.Tie as tie
 
 abbrev Inv-loop : tie.InvT-loop
-Inv-loop family b n x₀ rest₀ p₀ x rest p = Reversing (imageOf family b) b n x rest p
+Inv-loop family b n m rest₀ x₀ p₀ rest x p = (rest * b < 2 ^ 32) × Reversing (imageOf family b) b n x rest p
 
 abbrev μ-loop : tie.MeasureT-loop
-μ-loop family b n x₀ rest₀ p₀ x rest p = 2 ^ 32 - p
+μ-loop family b n m rest₀ x₀ p₀ rest x p = 2 ^ 32 - p
 
-loop-holds : tie.Need-loop-holds Inv-loop μ-loop
-loop-holds c = reversing-none _ _ _
+-- a turn's quotient
+turn : (c : tie.In-loop Inv-loop μ-loop) →
+    let b = c .before .before .before .args .b in
+    let r = c .before .loop .rest in
+    Divided b r (r * (2 ^ 32 / b + 1) / 2 ^ 32)
+turn c = divided (c .before .before .before .args .b) (c .before .loop .rest) (omega arith) (c .before .loop .inv .0)
 
 -- what is made so far, times b, is below 2^40
-shifted : (c : tie.In-loop Inv-loop μ-loop) → c .before .loop .x * c .before .before .args .b < 2 ^ 40
+shifted : (c : tie.In-loop Inv-loop μ-loop) → c .before .loop .x * c .before .before .before .args .b < 2 ^ 40
 shifted c =
-    let a = c .before .before .args in
+    let a = c .before .before .before .args in
     let l = c .before .loop in
-    let lt = reversing-lt (l .inv) (omega arith) (image-permutes (a .family) (a .b) (omega arith) .below) in
+    let lt = reversing-lt (l .inv .1) (omega arith) (image-permutes (a .family) (a .b) (omega arith) .below) in
     rising-fits {b = a .b} {p = l .x} (omega arith) (omega (arith, lt))
 
-mul-x : tie.Need-mul-x Inv-loop μ-loop
-mul-x c = omega (arith, shifted c)
+div-m : tie.Need-div-m Inv-loop μ-loop
+div-m c = omega arith
 
-rem-image : tie.Need-rem-image Inv-loop μ-loop
-rem-image c = omega arith
-
-image-requires : tie.Need-image-requires Inv-loop μ-loop
-image-requires c κs = omega (arith, mod-lt (c .before .loop .rest) {m = c .before .before .args .b} (omega arith))
-
--- a turn's number, rest and power are the loop's next
-next : (c : tie.After-image Inv-loop μ-loop) →
-    let a = c .before .before .before .args in
-    let l = c .before .before .loop in
-    Reversing (imageOf (a .family) (a .b)) (a .b) (a .n) (l .x * a .b + c .image .result) (l .rest / a .b) (l .p * a .b)
-next c = rw (c .image .ensures) (reversing-next (c .before .before .loop .inv) (omega arith) (omega arith))
-
-add-x : tie.Need-add-x Inv-loop μ-loop
-add-x c =
-    let a = c .before .before .before .args in
-    omega (
-      arith,
-      shifted (c .before),
-      c .image .ensures,
-      image-permutes (a .family) (a .b) (omega arith) .below (c .before .before .loop .rest % a .b) (mod-lt (c .before .before .loop .rest) (omega arith)),
-    )
+add-m : tie.Need-add-m Inv-loop μ-loop
+add-m c = omega (arith, div-le-self 4294967296 (c .args .b))
 
 div-rest : tie.Need-div-rest Inv-loop μ-loop
 div-rest c = omega arith
 
+mul-image : tie.Need-mul-image Inv-loop μ-loop
+mul-image c = omega (arith, div-mul-le-self (c .args .n) (c .args .b))
+
+sub-image : tie.Need-sub-image Inv-loop μ-loop
+sub-image c = omega (arith, div-mul-le-self (c .args .n) (c .args .b))
+
+image-requires : tie.Need-image-requires Inv-loop μ-loop
+image-requires c κs = omega (arith, remainder-lt (c .args .n) (c .args .b) (omega arith))
+
+loop-holds : tie.Need-loop-holds Inv-loop μ-loop
+loop-holds c =
+    let a = c .before .args in
+    (omega (arith, div-mul-le-self (a .n) (a .b)), rw (c .image .ensures) (reversing-first (imageOf (a .family) (a .b)) (a .b) (a .n) (omega arith)))
+
+mul-q : tie.Need-mul-q Inv-loop μ-loop
+mul-q c = omega (arith, turn c .product)
+
+mul-x : tie.Need-mul-x Inv-loop μ-loop
+mul-x c = omega (arith, shifted c)
+
+mul-image-2 : tie.Need-mul-image-2 Inv-loop μ-loop
+mul-image-2 c = omega (arith, turn c .fits)
+
+sub-image-2 : tie.Need-sub-image-2 Inv-loop μ-loop
+sub-image-2 c = turn c .back
+
+image-requires-2 : tie.Need-image-requires-2 Inv-loop μ-loop
+image-requires-2 c κs = omega (arith, turn c .digit)
+
+add-x : tie.Need-add-x Inv-loop μ-loop
+add-x c =
+    let a = c .before .before .before .before .args in
+    omega (arith, shifted (c .before), c .image2 .ensures, image-permutes (a .family) (a .b) (omega arith) .below _ (turn (c .before) .digit))
+
 mul-p : tie.Need-mul-p Inv-loop μ-loop
-mul-p c = omega (arith, rising-fits {b = c .before .before .before .args .b} {p = c .before .before .loop .p} (omega arith) (omega arith))
+mul-p c = omega (arith, rising-fits {b = c .before .before .before .before .args .b} {p = c .before .before .loop .p} (omega arith) (omega arith))
 
 loop-less : tie.Need-loop-less Inv-loop μ-loop
-loop-less c = rising-nears (omega arith) (rising-pos (c .before .before .loop .inv .power) (omega arith)) (omega arith)
+loop-less c = rising-nears (omega arith) (rising-pos (c .before .before .loop .inv .1 .power) (omega arith)) (omega arith)
 
 loop-again : tie.Need-loop-again Inv-loop μ-loop
-loop-again c = next c
+loop-again c = (turn (c .before) .fits, rw (c .image2 .ensures) (reversing-divided (c .before .before .loop .inv .1) (omega arith) (turn (c .before)) (omega arith)))
 
 returns : tie.Need-returns Inv-loop μ-loop
-returns c = reversing-whole (c .before .loop .inv) (omega arith) (omega arith)
+returns c = reversing-whole (c .before .loop .inv .1) (omega arith) (omega arith)
 
 pub jump-spec : {M : Type 1} → statement M
 jump-spec =
@@ -73,12 +93,19 @@ jump-spec =
     (tie.spec
     Inv-loop
     μ-loop
-    loop-holds
-    mul-x
-    rem-image
-    image-requires
-    add-x
+    div-m
+    add-m
     div-rest
+    mul-image
+    sub-image
+    image-requires
+    loop-holds
+    mul-q
+    mul-x
+    mul-image-2
+    sub-image-2
+    image-requires-2
+    add-x
     mul-p
     loop-less
     loop-again
