@@ -4,6 +4,7 @@ pub mod GrayLaws
 pub mod MixLaws
 pub mod PolynomialLaws
 pub mod PowerLaws
+pub mod SquareLaws
 pub mod OrderLaws
 pub mod DegreeLaws
 pub mod Examples

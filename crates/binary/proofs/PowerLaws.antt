@@ -9,11 +9,20 @@ use lib.Pow.{pow-pos, pow-lt, shr-shr}
 use lib.Bits.{bitXor, bitAnd, and-mask, xor-zero-r, xor-comm, xor-self, xor-lt}
 use Rattle.binary.specs.Gf2.{times}
 use Rattle.binary.specs.Polynomial.{Degree, timesX}
-use Rattle.binary.specs.Power.{powerOfX, timesDigits, mulMod}
+use Rattle.binary.specs.Power.{powerOfX}
 use Rattle.numbers.proofs.Cases.{lt-or-ge}
 use Rattle.binary.proofs.XorLaws.{eq-halves, xor-half, xor-odd, xor-assoc, xor-swap, xor-double, xor-shl}
 use Rattle.binary.proofs.MixLaws.{times-lt}
 use Rattle.binary.proofs.PolynomialLaws.{top-cancel, top-keep, timesX-less, timesX-more, timesX-lt, powerOfX-lt}
+
+-- a times the polynomial of the n lowest digits of b, modulo p
+unfoldable pub timesDigits : ℕ → ℕ → ℕ → ℕ → ℕ → ℕ
+timesDigits top p zero a b = zero
+timesDigits top p (suc n) a b = bitXor (times (b % 2) a) (timesDigits top p n (timesX top p a) (b / 2))
+
+-- a times b, modulo p
+unfoldable pub mulMod : ℕ → ℕ → ℕ → ℕ → ℕ
+mulMod d p a b = timesDigits (2 ^ d) p d a b
 
 -- a number's lowest digit and the others, apart
 digit-xor : (b : ℕ) → bitXor (b % 2) (b / 2 * 2) ≡ b
@@ -33,27 +42,10 @@ times-product zero v h = omega arith
 times-product (suc zero) v h = omega arith
 times-product (suc (suc c)) v h = absurd (omega arith)
 
--- One turn of the product's loop: x becomes y, and x with what the digits left give is the whole.
-pub digits-turn : (top p n a b x y whole : ℕ) → 0 < b → b < 2 ^ n → y ≡ bitXor x (times (b % 2) a) → bitXor x (timesDigits top p n a b) ≡ whole
-    → (b / 2 < 2 ^ (n - 1)) × (bitXor y (timesDigits top p (n - 1) (timesX top p a) (b / 2)) ≡ whole)
-unfolding timesDigits
-digits-turn top p zero a b x y whole l m e h = absurd (omega arith)
-digits-turn top p (suc n) a b x y whole l m e h = (
-  rw less (omega (arith, pow-suc 2 n)),
-  ap₂ (λ (y n : ℕ). bitXor y (timesDigits top p n (timesX top p a) (b / 2))) e less
-      ∙ xor-assoc x (times (b % 2) a) (timesDigits top p n (timesX top p a) (b / 2)) ∙ h,
-)
-  where
-    less : suc n - 1 ≡ n
-    less = omega arith
-
-no-digits : (top p n a : ℕ) → timesDigits top p n a 0 ≡ 0
+pub no-digits : (top p n a : ℕ) → timesDigits top p n a 0 ≡ 0
 unfolding timesDigits
 no-digits top p zero a = refl
 no-digits top p (suc n) a = no-digits top p n (timesX top p a)
-
-pub digits-none : (top p n a b x : ℕ) → b ≡ 0 → bitXor x (timesDigits top p n a b) ≡ x
-digits-none top p n a b x e = ap (bitXor x) (ap (timesDigits top p n a) e ∙ no-digits top p n a) ∙ xor-zero-r x
 
 -- the exponent's next digit, tested by a mask
 next-half : (e n : ℕ) → 0 < n → e / 2 ^ (n - 1) / 2 ≡ e / 2 ^ n
@@ -75,12 +67,12 @@ digit-zero e n l t = of-half (e / 2 ^ (n - 1)) (e / 2 ^ n) (next-half e n l) (λ
     of-half f g h o = omega arith
 
 module _ (d p : ℕ) (hd : 1 ≤ d) (degree : Degree d p) where
-  timesX-zero : timesX (2 ^ d) p 0 ≡ 0
+  pub timesX-zero : timesX (2 ^ d) p 0 ≡ 0
   timesX-zero = timesX-less (2 ^ d) p 0 (pow-pos d)
 
   -- ---- multiplication by x is linear
 
-  timesX-xor : (a b : ℕ) → a < 2 ^ d → b < 2 ^ d → timesX (2 ^ d) p (bitXor a b) ≡ bitXor (timesX (2 ^ d) p a) (timesX (2 ^ d) p b)
+  pub timesX-xor : (a b : ℕ) → a < 2 ^ d → b < 2 ^ d → timesX (2 ^ d) p (bitXor a b) ≡ bitXor (timesX (2 ^ d) p a) (timesX (2 ^ d) p b)
   timesX-xor a b ha hb =
       ⊎-elim
       (λ la. ⊎-elim
@@ -117,7 +109,7 @@ module _ (d p : ℕ) (hd : 1 ≤ d) (degree : Degree d p) where
 
   -- ---- the product by digits
 
-  pub digits-lt : (n a b : ℕ) → a < 2 ^ d → timesDigits (2 ^ d) p n a b < 2 ^ d
+  digits-lt : (n a b : ℕ) → a < 2 ^ d → timesDigits (2 ^ d) p n a b < 2 ^ d
   unfolding timesDigits
   digits-lt zero a b h = pow-pos d
   digits-lt (suc n) a b h =
@@ -157,10 +149,6 @@ module _ (d p : ℕ) (hd : 1 ≤ d) (degree : Degree d p) where
       moved : (x y : ℕ) → x * (y * 2) ≡ x * 2 * y
       moved x y = omega arith
 
-  pub mulMod-lt : (a b : ℕ) → a < 2 ^ d → mulMod d p a b < 2 ^ d
-  unfolding mulMod
-  mulMod-lt a b h = digits-lt d a b h
-
   -- ---- powers of x multiply
 
   pub mulMod-powers : (k e : ℕ) → mulMod d p (powerOfX (2 ^ d) p k) (powerOfX (2 ^ d) p e) ≡ powerOfX (2 ^ d) p (k + e)
@@ -181,16 +169,9 @@ module _ (d p : ℕ) (hd : 1 ≤ d) (degree : Degree d p) where
       one-more : (k e : ℕ) → suc (k + e) ≡ suc k + e
       one-more k e = omega arith
 
-  -- the digits of the exponent, highest first: a square, and where the digit is 1 once more x
-  pub power-even : (f e : ℕ) → f ≡ e * 2 → mulMod d p (powerOfX (2 ^ d) p e) (powerOfX (2 ^ d) p e) ≡ powerOfX (2 ^ d) p f
-  power-even f e h = mulMod-powers e e ∙ ap (powerOfX (2 ^ d) p) twice
-    where
-      twice : e + e ≡ f
-      twice = omega (arith, h)
-
-  pub power-odd : (f e : ℕ) → f ≡ e * 2 + 1 → timesX (2 ^ d) p (mulMod d p (powerOfX (2 ^ d) p e) (powerOfX (2 ^ d) p e)) ≡ powerOfX (2 ^ d) p f
-  unfolding powerOfX
-  power-odd f e h = ap (timesX (2 ^ d) p) (mulMod-powers e e) ∙ ap (powerOfX (2 ^ d) p) one-more
-    where
-      one-more : suc (e + e) ≡ f
-      one-more = omega (arith, h)
+pub power-next : (top p e : ℕ) → timesX top p (powerOfX top p e) ≡ powerOfX top p (e + 1)
+unfolding powerOfX
+power-next top p e = ap (powerOfX top p) (more e)
+  where
+    more : (e : ℕ) → suc e ≡ e + 1
+    more e = omega arith

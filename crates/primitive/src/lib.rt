@@ -2,7 +2,7 @@
 ghost use mathlib.Core.Path.{_≡_};
 ghost use Prim.Native.Nat.{_^_, _<_, _≤_};
 ghost use Rattle.binary.specs.Polynomial.{Degree, timesX, isPrimitive};
-ghost use Rattle.binary.specs.Power.{powerOfX, mulMod, Quotients};
+ghost use Rattle.binary.specs.Power.{powerOfX, Squares, Quotients};
 
 // x times `r`, modulo the polynomial `p`; `top` is 2^d.
 fn times_x(r: u64, p: u64, top: u64) -> u64
@@ -13,28 +13,27 @@ fn times_x(r: u64, p: u64, top: u64) -> u64
     if s < top { s } else { s ^ p }
 }
 
-// `a` times `b`, modulo the polynomial `p` of degree `d`: for each digit of `b`, lowest first, `a` is added or not, and multiplied by x.
-fn mul_mod(a: u64, b: u64, p: u64, d: u64) -> u64
-    requires { ⌜ (1 ≤ d) × (d ≤ 12) × Degree d p × (a < 2 ^ d) × (b < 2 ^ d) ⌝ }
-    ensures { λ r. ⌜ r ≡ mulMod d p a b ⌝ }
+// The squares of 1, x, x^2 and so on, modulo the polynomial `p` of degree `d`.
+fn squares(p: u64, d: u64) -> [u64; 12]
+    requires { ⌜ (1 ≤ d) × (d ≤ 12) × Degree d p ⌝ }
+    ensures { λ r. ⌜ Squares d p r ⌝ }
 {
     let top: u64 = 1 << d;
-    let mut sum = 0;
-    let mut factor = a;
-    let mut digits = b;
-    while 0 < digits {
-        if digits & 1 == 1 {
-            sum = sum ^ factor;
-        }
-        factor = times_x(factor, p, top);
-        digits = digits >> 1;
+    let mut words = [0u64; 12];
+    let mut x = 1;
+    let mut k = 0;
+    while k < 12 {
+        words[k] = x;
+        x = times_x(times_x(x, p, top), p, top);
+        k += 1;
     }
-    sum
+    words
 }
 
-// x^e modulo the polynomial `p` of degree `d`: for each digit of `e`, highest first, a square, and for a 1 once more x.
-fn power_of_x(e: u64, p: u64, d: u64) -> u64
-    requires { ⌜ (1 ≤ d) × (d ≤ 12) × Degree d p × (e < 2 ^ d) ⌝ }
+// x^e modulo the polynomial `p` of degree `d`: for each digit of `e`, highest first, a square, and for a 1 once more x. The digits of a number
+// pick its square from the squares of 1, x, x^2 and so on.
+fn power_of_x(words: &[u64], e: u64, p: u64, d: u64) -> u64
+    requires { ⌜ (1 ≤ d) × (d ≤ 12) × Degree d p × Squares d p (now words) × (e < 2 ^ d) ⌝ }
     ensures { λ r. ⌜ r ≡ powerOfX (2 ^ d) p e ⌝ }
 {
     let top: u64 = 1 << d;
@@ -42,7 +41,7 @@ fn power_of_x(e: u64, p: u64, d: u64) -> u64
     let mut place = d;
     while 0 < place {
         place -= 1;
-        r = mul_mod(r, r, p, d);
+        r = binary::mixed(words, r);
         if (e >> place) & 1 == 1 {
             r = times_x(r, p, top);
         }
@@ -77,7 +76,8 @@ pub fn is_primitive(d: u64, p: u64) -> bool
     ensures { λ r. ⌜ r ≡ isPrimitive d p ⌝ }
 {
     let top: u64 = 1 << d;
-    if power_of_x(top - 1, p, d) != 1 {
+    let words = squares(p, d);
+    if power_of_x(&words, top - 1, p, d) != 1 {
         return false;
     }
     let exponents = quotients(d);
@@ -85,7 +85,7 @@ pub fn is_primitive(d: u64, p: u64) -> bool
     while i < 4 {
         let e = exponents[i];
         if 0 < e {
-            if power_of_x(e, p, d) == 1 {
+            if power_of_x(&words, e, p, d) == 1 {
                 return false;
             }
         }

@@ -88,17 +88,7 @@ pub fn jump(v: &[u64], n: u64) -> u64
     requires { ⌜ length (now v) ≡ 32 ⌝ }
     ensures { λ r. ⌜ r ≡ stepped (now (v .entry)) n ⌝ }
 {
-    let mut g = n ^ (n >> 1);
-    let mut x = 0;
-    let mut j = 0;
-    while j < 32 {
-        if g & 1 == 1 {
-            x = x ^ v[j];
-        }
-        g = g >> 1;
-        j += 1;
-    }
-    x
+    binary::mixed(v, n ^ (n >> 1))
 }
 
 // The point of index `n + 1` from that of index `n`, which is `x`: the trailing zeros of n's complement pick the direction number.

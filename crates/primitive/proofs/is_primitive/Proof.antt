@@ -16,27 +16,37 @@ abbrev Passes : ℕ → ℕ → ℕ → Type 0
 Passes d p e = 0 < e → powerOfX (2 ^ d) p e ≡ 1 → ⊥
 
 abbrev Inv-loop : tie.InvT-loop
-Inv-loop d p top exponents i₀ i = (i ≤ 4) × ((k : ℕ) → k < i → Passes d p (getD exponents k 0))
+Inv-loop d p top words exponents i₀ i = (i ≤ 4) × ((k : ℕ) → k < i → Passes d p (getD exponents k 0))
 
 abbrev μ-loop : tie.MeasureT-loop
-μ-loop d p top exponents i₀ i = 4 - i
+μ-loop d p top words exponents i₀ i = 4 - i
 
 shl-top : tie.Need-shl-top Inv-loop μ-loop
 shl-top c = omega arith
 
+squares-requires : tie.Need-squares-requires Inv-loop μ-loop
+squares-requires c κs = c .pre
+
+slice-aggregate-power-of-x : tie.Need-slice-aggregate-power-of-x Inv-loop μ-loop
+slice-aggregate-power-of-x c = omega arith
+
 sub-power-of-x : tie.Need-sub-power-of-x Inv-loop μ-loop
-sub-power-of-x c = let d = c .args .d in omega (arith, top-is d (c .pre .1), pow-pos d)
+sub-power-of-x c = let s = c .before .before in omega (arith, top-is (s .args .d) (s .pre .1), pow-pos (s .args .d))
 
 power-of-x-requires : tie.Need-power-of-x-requires Inv-loop μ-loop
-power-of-x-requires c κs = let d = c .args .d in (c .pre .0, c .pre .1, c .pre .2, omega (arith, top-is d (c .pre .1), pow-pos d))
+power-of-x-requires c κs =
+    let s = c .before .before in
+    (s .pre .0, s .pre .1, s .pre .2, c .before .squares .ensures, omega (arith, top-is (s .args .d) (s .pre .1), pow-pos (s .args .d)))
 
 -- the first power is that of 2^d - 1
-whole : (c : tie.After-power-of-x Inv-loop μ-loop) → c .power-of-x .result ≡ powerOfX (2 ^ (c .before .args .d)) (c .before .args .p) (2 ^ (c .before .args .d) - 1)
-whole c = rw (top-is (c .before .args .d) (c .before .pre .1)) at (c .power-of-x .ensures)
+whole : (c : tie.After-power-of-x Inv-loop μ-loop) →
+    let a = c .before .before .before .args in
+    c .power-of-x .result ≡ powerOfX (2 ^ (a .d)) (a .p) (2 ^ (a .d) - 1)
+whole c = let s = c .before .before .before in rw (top-is (s .args .d) (s .pre .1)) at (c .power-of-x .ensures)
 
 returns : tie.Need-returns Inv-loop μ-loop
 returns c =
-    let s = c .before .before in
+    let s = c .before .before .before .before in
     not-primitive-whole (s .args .d) (s .args .p) (s .pre .0) (s .pre .2) (λ e. omega (arith, whole (c .before), c .if1 .taken))
 
 quotients-requires : tie.Need-quotients-requires Inv-loop μ-loop
@@ -53,19 +63,23 @@ array-read-e c = omega arith
 
 -- a quotient is below 2^d - 1
 below : (c : tie.In-loop Inv-loop μ-loop)
-    → getD (c .before .before .quotients .result) (c .before .loop .i) 0 < 2 ^ (c .before .before .before .before .before .args .d) - 1
+    → getD (c .before .before .quotients .result) (c .before .loop .i) 0 < 2 ^ (c .before .before .before .before .before .before .before .args .d) - 1
 below c = c .before .before .quotients .ensures .below (c .before .loop .i) (omega (arith, c .loop-test .taken))
+
+slice-aggregate-power-of-x-2 : tie.Need-slice-aggregate-power-of-x-2 Inv-loop μ-loop
+slice-aggregate-power-of-x-2 c = omega arith
 
 power-of-x-requires-2 : tie.Need-power-of-x-requires-2 Inv-loop μ-loop
 power-of-x-requires-2 c κs =
-    let s = c .before .before .before .before .before .before in
-    (s .pre .0, s .pre .1, s .pre .2, omega (arith, below (c .before)))
+    let q = c .before .before .before .before .before .before .before .before in
+    let s = q .before in
+    (s .pre .0, s .pre .1, s .pre .2, q .squares .ensures, omega (arith, below (c .before .before)))
 
 returns-2 : tie.Need-returns-2 Inv-loop μ-loop
 returns-2 c =
-    let l = c .before .before .before in
-    let s = l .before .before .before .before .before in
-    not-primitive-early (s .args .d) (s .args .p) (s .pre .0) (s .pre .2) _ (c .before .before .if2 .taken) (below l)
+    let l = c .before .before .before .before in
+    let s = l .before .before .before .before .before .before .before in
+    not-primitive-early (s .args .d) (s .args .p) (s .pre .0) (s .pre .2) _ (c .before .before .before .if2 .taken) (below l)
     (omega (arith, c .before .power-of-x2 .ensures, c .if3 .taken))
 
 add-i : tie.Need-add-i Inv-loop μ-loop
@@ -78,13 +92,13 @@ loop-again : tie.Need-loop-again Inv-loop μ-loop
 loop-again c = (
   omega arith,
   below-more _ (c .before .before .loop .i) (c .before .before .loop .inv .1)
-      (⊎-elim (λ w l e. omega (arith, w .1 .ensures, w .2 .left)) (λ w l e. omega (arith, w .left)) (c .if2 .came)),
+      (⊎-elim (λ w l e. omega (arith, w .2 .ensures, w .3 .left)) (λ w l e. omega (arith, w .left)) (c .if2 .came)),
 )
 
 returns-3 : tie.Need-returns-3 Inv-loop μ-loop
 returns-3 c =
     let q = c .before .before in
-    let s = q .before .before .before in
+    let s = q .before .before .before .before .before in
     primitive-by-powers (s .args .d) (s .args .p) (s .pre .0) (s .pre .2) (q .quotients .result) (q .quotients .ensures)
     (omega (arith, whole (q .before .before), q .before .if1 .left))
     (λ k h. c .before .loop .inv .1 k (omega arith))
@@ -96,6 +110,8 @@ is-primitive-spec =
     Inv-loop
     μ-loop
     shl-top
+    squares-requires
+    slice-aggregate-power-of-x
     sub-power-of-x
     power-of-x-requires
     returns
@@ -103,6 +119,7 @@ is-primitive-spec =
     loop-holds
     mul-e
     array-read-e
+    slice-aggregate-power-of-x-2
     power-of-x-requires-2
     returns-2
     add-i

@@ -1,0 +1,65 @@
+-- `binary::mixed` meets its contract. The loop's invariant: x with what the digits left pick from the rest of the words is the whole. Assumes nothing.
+use mathlib.Core.Path.{_≡_, refl, sym, ap, _∙_}
+use mathlib.Core.Logic.{⊎-elim}
+use Prim.Native.Nat.{_-_, _≤_}
+use native.Mathlib.Omega.{arith}
+use lib.Bits.{bitXor, xor-zero-r}
+use lib.ListN.{length, getD, drop}
+use Rattle.binary.specs.Gf2.{mix}
+use Rattle.binary.proofs.MixLaws.{mix-turn, mix-past, times-set, times-clear}
+use Rattle.binary.proofs.mixed.Statement.{statement}
+use Rattle.binary.proofs.mixed.Tie as tie
+
+abbrev Inv-loop : tie.InvT-loop
+Inv-loop words g digits₀ x₀ j₀ digits x j = (j ≤ length words) × (bitXor x (mix (drop j words) digits) ≡ mix words g)
+
+abbrev μ-loop : tie.MeasureT-loop
+μ-loop words g digits₀ x₀ j₀ digits x j = length words - j
+
+loop-holds : tie.Need-loop-holds Inv-loop μ-loop
+loop-holds c = (omega arith, refl)
+
+mul-x : tie.Need-mul-x Inv-loop μ-loop
+mul-x c = omega arith
+
+shared-slice-read-x : tie.Need-shared-slice-read-x Inv-loop μ-loop
+shared-slice-read-x c = omega arith
+
+add-j : tie.Need-add-j Inv-loop μ-loop
+add-j c = omega arith
+
+loop-less : tie.Need-loop-less Inv-loop μ-loop
+loop-less c = omega arith
+
+loop-again : tie.Need-loop-again Inv-loop μ-loop
+loop-again c =
+    let a = c .before .before .before .args in
+    let l = c .before .before .loop in (
+      omega arith,
+      mix-turn (a .words .now) (l .j) (l .digits) (l .x) (c .if1 .x) (mix (a .words .now) (a .g))
+          (⊎-elim
+          (λ w. w .2 ∙ ap (bitXor (l .x)) (times-set (l .digits) (getD (a .words .now) (l .j) 0) (w .0 .taken)))
+          (λ w. w .1 ∙ sym (xor-zero-r (l .x)) ∙ ap (bitXor (l .x)) (times-clear (l .digits) (getD (a .words .now) (l .j) 0) (w .0 .left)))
+          (c .if1 .came))
+          (l .inv .1),
+    )
+
+returns : tie.Need-returns Inv-loop μ-loop
+returns c =
+    let a = c .before .before .args in
+    let l = c .before .loop in
+    sym (xor-zero-r (l .x)) ∙ ap (bitXor (l .x)) (sym (mix-past (a .words .now) (l .j) (l .digits) (omega arith))) ∙ l .inv .1
+
+pub mixed-spec : {M : Type 1} → statement M
+mixed-spec =
+    tie.close
+    (tie.spec
+    Inv-loop
+    μ-loop
+    loop-holds
+    mul-x
+    shared-slice-read-x
+    add-j
+    loop-less
+    loop-again
+    returns)
