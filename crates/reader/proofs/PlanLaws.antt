@@ -13,11 +13,12 @@ use Rattle.bits.specs.Stream.{ofBits, bitsOf, fieldAt}
 use Rattle.bits.proofs.StreamLaws.{length-bits}
 use Rattle.plan.specs.Plan.{Plan, halton, sobol}
 use Rattle.plan.specs.Reading.{Step, got, refuseIf, field, andThen, readBody, readFields, refused, badTail, closed, finish, readPlan}
-use Rattle.plan.specs.Answer.{axisAt, axesOf, answerOf}
+use Rattle.plan.specs.Answer.{axisAt, axesOf, answerOf, stepOf}
 use Rattle.plan.specs.declared.PlanRead.{PlanRead}
-use Rattle.reader.specs.Parts.{stepOf, BasesSay, AxesSay}
-use Rattle.reader.proofs.BlankLaws.{padded-front}
-use Rattle.reader.proofs.PartLaws.{field-value, finish-stops}
+use Rattle.halton_reader.specs.Bases.{BasesSay}
+use Rattle.sobol_reader.specs.Axes.{AxesSay}
+use Rattle.plan.proofs.BlankLaws.{padded-front}
+use Rattle.plan.proofs.PartLaws.{field-value, finish-stops}
 
 -- ---- the bits after the last field
 

@@ -15,10 +15,10 @@ use Rattle.bits.specs.Stream.{bitsOf, overwrite}
 use Rattle.bits.proofs.OverwriteLaws.{length-over}
 use Rattle.plan.specs.Plan.{Axis}
 use Rattle.plan.specs.Reading.{andThen, readAxes}
-use Rattle.plan.specs.Answer.{polynomialsOf, msOf, axisAt, axesOf}
-use Rattle.reader.specs.Parts.{stepOf, AxisSays, AxesSay}
-use Rattle.reader.proofs.BlankLaws.{blank-drop, blank-set, padded-front}
-use Rattle.reader.proofs.PartLaws.{then-stops}
+use Rattle.plan.specs.Answer.{polynomialsOf, msOf, axisAt, axesOf, stepOf}
+use Rattle.sobol_reader.specs.Axes.{AxisSays, AxesSay}
+use Rattle.plan.proofs.BlankLaws.{blank-drop, blank-set, padded-front}
+use Rattle.plan.proofs.PartLaws.{then-stops}
 
 -- ---- a list with a block written over it from place q on
 

@@ -2,9 +2,9 @@
 use mathlib.Core.Path.{refl}
 use Prim.Native.Nat.{_-_}
 use native.Mathlib.Omega.{arith}
-use Rattle.reader.proofs.BasesLaws.{SharesLoop, shares-end, shares-stop, shares-next}
-use Rattle.reader.proofs.shares_factor.Statement.{statement}
-use Rattle.reader.proofs.shares_factor.Tie as tie
+use Rattle.halton_reader.proofs.BasesLaws.{SharesLoop, shares-end, shares-stop, shares-next}
+use Rattle.halton_reader.proofs.shares_factor.Statement.{statement}
+use Rattle.halton_reader.proofs.shares_factor.Tie as tie
 
 abbrev Inv-loop : tie.InvT-loop
 Inv-loop b bases n j₀ j = SharesLoop b bases n j

@@ -9,9 +9,9 @@ use lib.ListN.{length, take, drop, length-drop}
 use borrow.Author.Tests.{ltb-false}
 use Rattle.bits.specs.Stream.{ofBits, bitsOf, fieldAt}
 use Rattle.bits.proofs.StreamLaws.{length-bits, field-lt}
 use Rattle.plan.specs.Plan.{Plan}
 use Rattle.plan.specs.Reading.{Step, andThen, finish, refused}
-use Rattle.reader.specs.Parts.{stepOf}
+use Rattle.plan.specs.Answer.{stepOf}
 
 -- ---- a field
 

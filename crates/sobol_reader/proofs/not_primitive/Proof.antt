@@ -2,8 +2,8 @@
 use mathlib.Core.Path.{refl}
 use native.Mathlib.Omega.{arith}
 use borrow.Author.Tests.{eq-eqb, ne-eqb}
-use Rattle.reader.proofs.not_primitive.Statement.{statement}
-use Rattle.reader.proofs.not_primitive.Tie as tie
+use Rattle.sobol_reader.proofs.not_primitive.Statement.{statement}
+use Rattle.sobol_reader.proofs.not_primitive.Tie as tie
 
 returns : tie.Need-returns
 returns c = rw (eq-eqb (c .before .args .d) 0 (omega arith)) refl

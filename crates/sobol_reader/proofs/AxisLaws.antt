@@ -13,11 +13,12 @@ use Rattle.binary.specs.Polynomial.{Degree}
 use Rattle.bits.specs.Stream.{ofBits, bitsOf, fieldAt}
 use Rattle.bits.proofs.StreamLaws.{field-lt}
 use Rattle.plan.specs.Plan.{Axis}
-use Rattle.plan.specs.Reading.{Step, refuse, got, refuseIf, field, andThen, polynomialOf, notPrimitive, isRepeated, readMs, readAxis}
-use Rattle.plan.specs.Answer.{axisAt, axesOf}
+use Rattle.plan.specs.Reading.{refuse, refuseIf, field, andThen, polynomialOf, notPrimitive, isRepeated, readMs, readAxis}
+use Rattle.plan.specs.Answer.{axisAt, axesOf, stepOf}
 use Rattle.plan.proofs.TestLaws.{polynomial-degree}
-use Rattle.reader.specs.Parts.{MsSay, AxisSays, stepOf}
-use Rattle.reader.proofs.PartLaws.{field-value, step-stops}
+use Rattle.plan.proofs.StepLaws.{afterMs}
+use Rattle.sobol_reader.specs.Axes.{MsSay, AxisSays}
+use Rattle.plan.proofs.PartLaws.{field-value, step-stops}
 
 -- ---- a polynomial against those of the first n axes of arrays
 
@@ -65,10 +66,6 @@ module _ {p : ℕ} {ps : List ℕ} {n k : ℕ} (inv : RepeatedLoop p ps n k) whe
 short-degree : (earlier : List Axis) (l : List ℕ) → ltb (length l) 4 ≡ true → readAxis earlier l ≡ refuse 1
 unfolding readAxis field refuseIf
 short-degree earlier l e = rw e refl
-
--- what follows the m's
-abbrev afterMs : ℕ → List ℕ → List ℕ → Step Axis
-afterMs p ms l = got (record { polynomial = p; ms = ms }) l
 
 module _ (earlier : List Axis) (l : List ℕ) (d : ℕ) (e : ltb (length l) 4 ≡ false) (ed : ofBits (take 4 l) ≡ d) where
   bad-degree : ltb 12 d ≡ true → readAxis earlier l ≡ refuse 6

@@ -2,9 +2,9 @@
 use mathlib.Core.Path.{refl}
 use Prim.Native.Nat.{_-_}
 use native.Mathlib.Omega.{arith}
-use Rattle.reader.proofs.AxisLaws.{RepeatedLoop, repeated-end, repeated-stop, repeated-next}
-use Rattle.reader.proofs.is_repeated.Statement.{statement}
-use Rattle.reader.proofs.is_repeated.Tie as tie
+use Rattle.sobol_reader.proofs.AxisLaws.{RepeatedLoop, repeated-end, repeated-stop, repeated-next}
+use Rattle.sobol_reader.proofs.is_repeated.Statement.{statement}
+use Rattle.sobol_reader.proofs.is_repeated.Tie as tie
 
 abbrev Inv-loop : tie.InvT-loop
 Inv-loop p polynomials n j₀ j = RepeatedLoop p polynomials n j

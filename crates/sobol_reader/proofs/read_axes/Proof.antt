@@ -2,9 +2,9 @@
 use mathlib.Core.Path.{sym}
 use Prim.Native.Nat.{_-_}
 use native.Mathlib.Omega.{arith}
-use Rattle.reader.proofs.AxesLaws.{AxesLoop, axes-start, axes-end, axes-stop, axes-next}
-use Rattle.reader.proofs.read_axes.Statement.{statement}
-use Rattle.reader.proofs.read_axes.Tie as tie
+use Rattle.sobol_reader.proofs.AxesLaws.{AxesLoop, axes-start, axes-end, axes-stop, axes-next}
+use Rattle.sobol_reader.proofs.read_axes.Statement.{statement}
+use Rattle.sobol_reader.proofs.read_axes.Tie as tie
 
 abbrev Inv-loop : tie.InvT-loop
 Inv-loop bytes axes polynomials₀ ms₀ at₀ i₀ polynomials ms at i = AxesLoop bytes axes polynomials ms at i

@@ -1,10 +1,10 @@
 -- The loop has read the first i of the m's, and the rest of the reading decides. Assumes nothing.
 use Prim.Native.Nat.{_+_, _-_}
 use native.Mathlib.Omega.{arith}
-use Rattle.reader.proofs.PartLaws.{long-field}
-use Rattle.reader.proofs.MsLaws.{MsLoop, ms-start, ms-end, ms-short, ms-even, ms-next}
-use Rattle.reader.proofs.read_ms.Statement.{statement}
-use Rattle.reader.proofs.read_ms.Tie as tie
+use Rattle.plan.proofs.PartLaws.{long-field}
+use Rattle.sobol_reader.proofs.MsLaws.{MsLoop, ms-start, ms-end, ms-short, ms-even, ms-next}
+use Rattle.sobol_reader.proofs.read_ms.Statement.{statement}
+use Rattle.sobol_reader.proofs.read_ms.Tie as tie
 
 abbrev Inv-loop : tie.InvT-loop
 Inv-loop bytes start degree ms₀ at₀ i₀ ms at i = MsLoop bytes start degree ms at i

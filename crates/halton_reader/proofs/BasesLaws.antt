@@ -12,9 +12,9 @@ use borrow.Author.Tests.{eq-eqb, ne-eqb}
 use Rattle.numbers.specs.Gcd.{gcd}
 use Rattle.bits.specs.Stream.{ofBits, bitsOf, fieldAt}
 use Rattle.plan.specs.Reading.{refuse, refuseIf, field, sharesFactor, readBases}
-use Rattle.reader.specs.Parts.{BasesSay}
-use Rattle.reader.proofs.BlankLaws.{drop-zeros, blank-set}
-use Rattle.reader.proofs.PartLaws.{long-field, field-value}
+use Rattle.halton_reader.specs.Bases.{BasesSay}
+use Rattle.plan.proofs.BlankLaws.{drop-zeros, blank-set}
+use Rattle.plan.proofs.PartLaws.{long-field, field-value}
 
 -- ---- a base against the first n of an array
 

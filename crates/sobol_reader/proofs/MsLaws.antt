@@ -13,9 +13,9 @@ use borrow.Author.Tests.{eq-eqb, ne-eqb}
 use Rattle.bits.specs.Stream.{ofBits, bitsOf, fieldAt}
 use Rattle.bits.proofs.ByteLaws.{lowest-bit}
 use Rattle.plan.specs.Reading.{refuse, refuseIf, field, readMs}
-use Rattle.reader.specs.Parts.{MsSay}
-use Rattle.reader.proofs.BlankLaws.{drop-zeros, blank-set}
-use Rattle.reader.proofs.PartLaws.{long-field, field-value}
+use Rattle.sobol_reader.specs.Axes.{MsSay}
+use Rattle.plan.proofs.BlankLaws.{drop-zeros, blank-set}
+use Rattle.plan.proofs.PartLaws.{long-field, field-value}
 
 -- ---- one m of the reading, by the tests
 

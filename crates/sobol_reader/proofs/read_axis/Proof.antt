@@ -4,10 +4,10 @@ use Prim.Native.Nat.{_+_, _*_, _≤_}
 use native.Mathlib.Omega.{arith}
 use lib.ListN.{length}
 use Rattle.plan.specs.Reading.{polynomialOf}
-use Rattle.reader.proofs.PartLaws.{long-field}
-use Rattle.reader.proofs.AxisLaws.{DegreeRead, PolynomialRead, polynomial-fits, axis-short, axis-high, axis-cut, axis-unfit, axis-stop, axis-end}
-use Rattle.reader.proofs.read_axis.Statement.{statement}
-use Rattle.reader.proofs.read_axis.Tie as tie
+use Rattle.plan.proofs.PartLaws.{long-field}
+use Rattle.sobol_reader.proofs.AxisLaws.{DegreeRead, PolynomialRead, polynomial-fits, axis-short, axis-high, axis-cut, axis-unfit, axis-stop, axis-end}
+use Rattle.sobol_reader.proofs.read_axis.Statement.{statement}
+use Rattle.sobol_reader.proofs.read_axis.Tie as tie
 
 -- the degree lies inside the bytes
 after-degree : (c : tie.Else1) → let a = c .before .before .before .before .args in a .start + 4 ≤ 8 * length (a .bytes .now)

@@ -2,10 +2,10 @@
 use mathlib.Core.Path.{sym}
 use Prim.Native.Nat.{_-_}
 use native.Mathlib.Omega.{arith}
-use Rattle.reader.proofs.PartLaws.{long-field}
-use Rattle.reader.proofs.BasesLaws.{BasesLoop, bases-start, bases-end, bases-short, bases-one, bases-common, bases-next}
-use Rattle.reader.proofs.read_bases.Statement.{statement}
-use Rattle.reader.proofs.read_bases.Tie as tie
+use Rattle.plan.proofs.PartLaws.{long-field}
+use Rattle.halton_reader.proofs.BasesLaws.{BasesLoop, bases-start, bases-end, bases-short, bases-one, bases-common, bases-next}
+use Rattle.halton_reader.proofs.read_bases.Statement.{statement}
+use Rattle.halton_reader.proofs.read_bases.Tie as tie
 
 abbrev Inv-loop : tie.InvT-loop
 Inv-loop bytes axes bases₀ at₀ i₀ bases at i = BasesLoop bytes axes bases at i

@@ -1,28 +1,15 @@
--- What reading a part of a plan answers, in the terms of the reading. A part starts at a bit of the stream; the answer has code 0, the bit
--- after the part and its values, with 0 in the places that are not used; or a refusal's number. Definitions only.
+-- What reading a part of a Sobol plan answers, in the terms of the reading. A part starts at a bit of the stream; the answer has code 0, the
+-- bit after the part and its values, with 0 in the places that are not used; or a refusal's number. Definitions only.
 use mathlib.Core.Path.{_≡_}
 use mathlib.Core.List.{List, []}
-use Prim.Native.Nat.{ℕ, zero, suc, _+_, _-_, _*_, _≤_}
+use Prim.Native.Nat.{ℕ, _+_, _-_, _*_, _≤_}
 use lib.ListN.{length, take, drop, replicate}
+use Rattle.numbers.specs.Listed.{padded}
 use Rattle.binary.specs.Polynomial.{Degree}
 use Rattle.bits.specs.Stream.{bitsOf}
 use Rattle.plan.specs.Plan.{Axis}
-use Rattle.plan.specs.Reading.{Step, refuse, got, readBases, readMs, readAxis, readAxes}
-use Rattle.numbers.specs.Listed.{padded}
-use Rattle.plan.specs.Answer.{polynomialsOf, msOf, axesOf}
-
--- code 0 with a value and the bits after it, or a refusal's number
-abbrev pub stepOf : {A : Type 0} → ℕ → A → List ℕ → Step A
-stepOf zero a l = got a l
-stepOf (suc n) a l = refuse (suc n)
-
--- the bases of so many axes, from bit 5
-pub record BasesSay (bytes : List ℕ) (axes code at : ℕ) (bases : List ℕ) : Type 0 where
-  pub step : readBases axes [] (drop 5 (bitsOf bytes)) ≡ stepOf code (take axes bases) (drop at (bitsOf bytes))
-  pub blank : drop axes bases ≡ replicate (6 - axes) 0
-  pub size : length bases ≡ 6
-  pub within : at ≤ 8 * length bytes
-  pub near : at ≤ 53
+use Rattle.plan.specs.Reading.{readMs, readAxis, readAxes}
+use Rattle.plan.specs.Answer.{polynomialsOf, msOf, axesOf, stepOf}
 
 -- so many m's, from bit `start`
 pub record MsSay (bytes : List ℕ) (start degree code at : ℕ) (ms : List ℕ) : Type 0 where

@@ -5,8 +5,8 @@ use native.Mathlib.Nat.{mod-eq-of-lt, one-mul}
 use native.Mathlib.Omega.{arith}
 use lib.Pow.{pow-mono}
 use Rattle.plan.specs.Reading.{polynomialOf}
-use Rattle.reader.proofs.polynomial.Statement.{statement}
-use Rattle.reader.proofs.polynomial.Tie as tie
+use Rattle.sobol_reader.proofs.polynomial.Statement.{statement}
+use Rattle.sobol_reader.proofs.polynomial.Tie as tie
 
 at-zero : (d a : ℕ) → d ≡ 0 → polynomialOf d a ≡ 1
 unfolding polynomialOf
