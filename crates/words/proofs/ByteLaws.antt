@@ -1,4 +1,4 @@
--- Words as bytes: each byte by a shift, and one word more after the others. Assumes nothing.
+-- Words as bytes: each byte by a shift, and one word more after the others; the numbers of a window. Assumes nothing.
 use mathlib.Core.Path.{_≡_, refl, sym, ap, ap₂, _∙_}
 use mathlib.Core.List.{List, [], _∷_, _++_, append-assoc, append-nil}
 use Prim.Native.Nat.{ℕ, zero, suc, _+_, _-_, _*_, _/_, _%_, _^_, _<_}
@@ -8,10 +8,12 @@ use native.Mathlib.Omega.{arith}
 use lib.ListN.{length, take, drop, getD, length-append}
 use lib.Seq.{take-suc, length-take-le, drop-nil, drop-append-add}
 use lib.Pow.{pow-add}
+use Rattle.numbers.specs.Listed.{padded}
+use Rattle.numbers.proofs.ListedLaws.{listed-length, padded-take}
 use Rattle.bits.specs.Stream.{toBits, bitsOf, overwrite}
 use Rattle.bits.proofs.StreamLaws.{to-bits-low, to-bits-split}
 use Rattle.bits.proofs.OverwriteLaws.{over-append, over-zero}
-use Rattle.hisowake.specs.Bytes.{bytesOf, wordBytes}
+use Rattle.words.specs.Bytes.{bytesOf, wordBytes, quadAt, windowIn}
 
 pub length-bytes : (k n : ℕ) → length (bytesOf k n) ≡ k
 unfolding bytesOf
@@ -77,3 +79,14 @@ bytes-spell zero n = unfold toBits in refl
 bytes-spell (suc k) n =
     let e : 8 * suc k ≡ 8 + 8 * k = omega arith in
     ap₂ _++_ (sym (to-bits-low 8 (n / 256 ^ k))) (bytes-spell k n) ∙ rw (← weight k, e) (sym (to-bits-split 8 (8 * k) n))
+
+-- ---- the numbers of a window
+
+module _ (bytes : List ℕ) (s : ℕ) where
+  pub window-length : length (windowIn bytes s) ≡ 2 * s
+  unfolding windowIn
+  window-length = listed-length (quadAt bytes) (2 * s)
+
+  -- what the code passes on of the twelve numbers
+  pub window-front : take (2 * s) (padded 12 (windowIn bytes s)) ≡ windowIn bytes s
+  window-front = padded-take 12 (windowIn bytes s) (2 * s) window-length

@@ -1,11 +1,11 @@
--- `hisowake::quad` meets its contract: each byte is below 256, so that no sum passes 2^32. Assumes nothing.
+-- `words::quad` meets its contract: each byte is below 256, so that no sum passes 2^32. Assumes nothing.
 use mathlib.Core.Path.{refl}
 use Prim.Native.Nat.{_+_, _*_}
 use native.Mathlib.Omega.{arith}
 use borrow.Author.Needs.{needs}
-use Rattle.hisowake.specs.Bytes.{quadAt}
-use Rattle.hisowake.proofs.quad.Statement.{statement}
-use Rattle.hisowake.proofs.quad.Tie as tie
+use Rattle.words.specs.Bytes.{quadAt}
+use Rattle.words.proofs.quad.Statement.{statement}
+use Rattle.words.proofs.quad.Tie as tie
 
 mul-high : tie.Need-mul-high
 mul-high c = search needs
