@@ -4,10 +4,10 @@ use Prim.Native.Nat.{ℕ, _+_, _*_, _-_, _≤_}
 use native.Mathlib.Omega.{arith}
 use lib.ListN.{take}
 use Rattle.plan.specs.Plan.{basesBits}
-use Rattle.writer.specs.Parts.{Put}
-use Rattle.writer.proofs.PartLaws.{put-field, no-base, next-base}
-use Rattle.writer.proofs.put_bases.Statement.{statement}
-use Rattle.writer.proofs.put_bases.Tie as tie
+use Rattle.axes_writer.specs.Parts.{Put}
+use Rattle.axes_writer.proofs.PartLaws.{put-field, no-base, next-base}
+use Rattle.axes_writer.proofs.put_bases.Statement.{statement}
+use Rattle.axes_writer.proofs.put_bases.Tie as tie
 
 abbrev Inv-loop : tie.InvT-loop
 Inv-loop out₀ bases axes i₀ out i = (i ≤ axes) × Put out₀ out 5 (basesBits (take i bases)) (5 + 8 * i)

@@ -4,9 +4,9 @@ use mathlib.Core.Path.{_≡_}
 use mathlib.Core.Logic.{⊎-elim}
 use Prim.Native.Nat.{_-_}
 use native.Mathlib.Omega.{arith}
-use Rattle.writer.proofs.PartLaws.{put-field, whole-axis}
-use Rattle.writer.proofs.put_axis.Statement.{statement}
-use Rattle.writer.proofs.put_axis.Tie as tie
+use Rattle.axes_writer.proofs.PartLaws.{put-field, whole-axis}
+use Rattle.axes_writer.proofs.put_axis.Statement.{statement}
+use Rattle.axes_writer.proofs.put_axis.Tie as tie
 
 -- how many coefficients there are
 width : (c : tie.Joined1) → c .if1 .w ≡ c .before .before .before .before .before .degree .result - 1

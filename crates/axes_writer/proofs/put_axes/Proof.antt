@@ -4,10 +4,10 @@ use Prim.Native.Nat.{ℕ, _+_, _*_, _-_, _≤_}
 use native.Mathlib.Omega.{arith}
 use Rattle.plan.specs.Plan.{axesBits}
 use Rattle.plan.specs.Answer.{axesOf}
-use Rattle.writer.specs.Parts.{Put}
-use Rattle.writer.proofs.PartLaws.{no-axis, next-axis}
-use Rattle.writer.proofs.put_axes.Statement.{statement}
-use Rattle.writer.proofs.put_axes.Tie as tie
+use Rattle.axes_writer.specs.Parts.{Put}
+use Rattle.axes_writer.proofs.PartLaws.{no-axis, next-axis}
+use Rattle.axes_writer.proofs.put_axes.Statement.{statement}
+use Rattle.axes_writer.proofs.put_axes.Tie as tie
 
 abbrev Inv-loop : tie.InvT-loop
 Inv-loop out₀ polynomials ms axes at₀ i₀ out at i = (i ≤ axes) × (at ≤ 5 + 160 * i) × Put out₀ out 5 (axesBits (axesOf polynomials ms i)) at

@@ -5,10 +5,10 @@ use native.Mathlib.Omega.{arith}
 use lib.ListN.{take, drop, length-drop}
 use lib.Seq.{getD-drop}
 use Rattle.plan.specs.Plan.{msBits}
-use Rattle.writer.specs.Parts.{Put}
-use Rattle.writer.proofs.PartLaws.{put-field, no-m, next-m}
-use Rattle.writer.proofs.put_ms.Statement.{statement}
-use Rattle.writer.proofs.put_ms.Tie as tie
+use Rattle.axes_writer.specs.Parts.{Put}
+use Rattle.axes_writer.proofs.PartLaws.{put-field, no-m, next-m}
+use Rattle.axes_writer.proofs.put_ms.Statement.{statement}
+use Rattle.axes_writer.proofs.put_ms.Tie as tie
 
 abbrev Inv-loop : tie.InvT-loop
 Inv-loop out₀ start ms from degree at₀ i₀ out at i = (i ≤ degree) × (at ≤ start + 12 * i) × Put out₀ out start (msBits 1 (take i (drop from ms))) at

@@ -1,21 +1,19 @@
--- Parts written one after another are one part, and so the parts of a plan, each written by itself, come to its bits. Assumes nothing.
+-- Parts written one after another are one part: bases, m's and axes, each written by itself. Assumes nothing.
 use mathlib.Core.Path.{_≡_, refl, ap, _∙_}
 use mathlib.Core.List.{List, [], _++_}
-use Prim.Native.Nat.{ℕ, zero, suc, _+_, _-_, _*_, _/_, _<_, _≤_}
+use Prim.Native.Nat.{ℕ, _+_, _-_, _*_, _/_, _<_, _≤_}
 use native.Mathlib.Numerals.{add-one}
 use native.Mathlib.Omega.{arith}
 use lib.ListN.{length, take, drop, getD, length-append, length-take, length-drop}
 use lib.Seq.{take-suc, length-take-le}
-use borrow.Author.Tests.{ne-eqb}
 use Rattle.binary.specs.Polynomial.{degreeOf}
 use Rattle.bits.specs.Stream.{toBits, bitsOf, overwrite}
 use Rattle.bits.proofs.StreamLaws.{length-to-bits, length-bits}
 use Rattle.bits.proofs.OverwriteLaws.{over-append, over-zero}
-use Rattle.plan.specs.Plan.{headerBits, basesBits, msBits, axisBits, axesBits, planBits}
-use Rattle.plan.specs.Answer.{axisAt, axesOf, planBy, planOf}
-use Rattle.plan.proofs.PlaceLaws.{length-snoc}
+use Rattle.plan.specs.Plan.{basesBits, msBits, axisBits, axesBits}
+use Rattle.plan.specs.Answer.{axisAt, axesOf}
 use Rattle.plan.proofs.SpellingLaws.{bases-bits-snoc, ms-bits-snoc, axes-bits-snoc}
-use Rattle.writer.specs.Parts.{Put}
+use Rattle.axes_writer.specs.Parts.{Put}
 
 -- ---- any parts
 
@@ -78,24 +76,3 @@ unfolding axisBits
 whole-axis ps ms i d w room h long most ed ew p q r =
     let el : length (take d (drop (12 * i) ms)) ≡ d = length-take-le d (drop (12 * i) ms) (omega (arith, length-drop (12 * i) ms)) in
     rw (← ed, el, ← ew) (put-then room (put-then room p q) r)
-
--- ---- a whole plan
-
-length-axes-of : (ps ms : List ℕ) (s : ℕ) → length (axesOf ps ms s) ≡ s
-unfolding axesOf
-length-axes-of ps ms zero = refl
-length-axes-of ps ms (suc s) = omega (arith, length-snoc (axesOf ps ms s) (axisAt ps ms s), length-axes-of ps ms s)
-
-pub put-header : {old mid new : List ℕ} (family axes : ℕ) → Put old mid 0 (toBits 2 family) 2 → Put mid new 2 (toBits 3 axes) 5
-    → Put old new 0 (headerBits family axes) 5
-put-header family axes p q = put-then (omega arith) p q
-
-module _ {old mid new : List ℕ} {end : ℕ} (family axes : ℕ) (bases ps ms : List ℕ) (h : Put old mid 0 (headerBits family axes) 5) where
-  pub whole-sobol : family ≡ 2 → Put mid new 5 (axesBits (axesOf ps ms axes)) end → Put old new 0 (planBits (planOf family axes bases ps ms)) end
-  unfolding planOf planBy planBits
-  whole-sobol e p = rw (e, length-axes-of ps ms axes) (put-then (omega arith) (rw e at h) p)
-
-  pub whole-halton : family < 2 → axes ≤ length bases → Put mid new 5 (basesBits (take axes bases)) end
-      → Put old new 0 (planBits (planOf family axes bases ps ms)) end
-  unfolding planOf planBy planBits
-  whole-halton l k p = rw (ne-eqb family 2 (λ e. omega arith), length-take-le axes bases k) (put-then (omega arith) h p)
