@@ -1,10 +1,14 @@
 -- Each answer of each call, from the tests that lead to it; and what putting a plan's point leaves. Assumes nothing.
 use mathlib.Core.Path.{_≡_, refl, sym, ap, _∙_}
+use mathlib.Core.Bool.{false}
+use mathlib.Core.Logic.{⊎-elim}
 use mathlib.Core.List.{List, _++_}
 use Prim.Native.Nat.{ℕ, _+_, _*_, _^_, _<_, _≤_}
 use native.Mathlib.Omega.{arith}
+use lib.Dec.{eqb}
 use lib.ListN.{length, take, drop}
-use borrow.Author.Tests.{lt-ltb, le-ltb, le-leb, lt-leb}
+use borrow.Author.Tests.{lt-ltb, le-ltb, le-leb, lt-leb, ne-eqb}
+use Rattle.numbers.proofs.Cases.{lt-or-ge}
 use Rattle.numbers.proofs.ListedLaws.{padded-take}
 use Rattle.bits.specs.Stream.{AllBelow, overwrite}
 use Rattle.plan.specs.Plan.{Plan, Valid}
@@ -16,9 +20,9 @@ use Rattle.points.specs.Arrays.{directionsArray, pointAt}
 use Rattle.points.proofs.PointLaws.{point-of-length}
 use Rattle.writer.proofs.RoundTrip.{read-accepted}
 use Rattle.state.proofs.StateLaws.{Holds, holds-point, accepted-holds}
-use Rattle.hisowake.specs.Bytes.{wordBytes}
-use Rattle.hisowake.specs.Calls.{pointCodeBy, pointCode, pointBytesBy, pointBytes}
-use Rattle.hisowake.proofs.ByteLaws.{length-words}
+use Rattle.words.specs.Bytes.{wordBytes}
+use Rattle.words.proofs.ByteLaws.{length-words}
+use Rattle.hisowake.specs.Calls.{pointRefusal, pointCodeBy, pointCode, pointBytesBy, pointBytes}
 
 -- ---- the plan that is read
 
@@ -42,6 +46,29 @@ point-put {p} {axes = axes} h v n old new x e put =
     let size : 0 + length (wordBytes (pointOf p n)) ≡ 8 * axes = omega (arith, length-words (pointOf p n), long) in
     put ∙ rw (front, size) refl
 
+-- ---- when a point is turned down
+
+module _ (index s room : ℕ) where
+  pub point-out : 2 ^ 32 ≤ index → 11 ≡ pointRefusal index s room
+  unfolding pointRefusal
+  point-out h = rw (le-leb (2 ^ 32) index h) refl
+
+  module _ (h : index < 2 ^ 32) where
+    pub point-no-room : room < 8 * s → 13 ≡ pointRefusal index s room
+    unfolding pointRefusal
+    point-no-room r = rw (lt-leb (2 ^ 32) index h, lt-ltb room (8 * s) r) refl
+
+    pub point-none : 8 * s ≤ room → 0 ≡ pointRefusal index s room
+    unfolding pointRefusal
+    point-none r = rw (lt-leb (2 ^ 32) index h, le-ltb room (8 * s) r) refl
+
+  -- it is not: each test passes
+  pub point-zero : pointRefusal index s room ≡ 0 → (index < 2 ^ 32) × (8 * s ≤ room)
+  point-zero z = ⊎-elim (λ h. (h, long h)) (λ h. absurd (omega (arith, point-out h))) (lt-or-ge index (2 ^ 32))
+    where
+      long : index < 2 ^ 32 → 8 * s ≤ room
+      long h = ⊎-elim (λ r. absurd (omega (arith, point-no-room h r))) (λ r. r) (lt-or-ge room (8 * s))
+
 -- ---- the C point
 
 module _ (bytes : List ℕ) (index : ℕ) (out : List ℕ) where
@@ -50,20 +77,16 @@ module _ (bytes : List ℕ) (index : ℕ) (out : List ℕ) where
   point-refused n e = (rw e refl, rw e refl)
 
   module _ (p : Plan) (e : readPlan bytes ≡ accepted p) where
-    pub point-out : 2 ^ 32 ≤ index → (11 ≡ pointCode bytes index out) × (out ≡ pointBytes bytes index out)
+    pub point-turned : (c : ℕ) → c ≡ pointRefusal index (axisCount p) (length out) → (c ≡ 0 → ⊥)
+        → (c ≡ pointCode bytes index out) × (out ≡ pointBytes bytes index out)
     unfolding pointCode pointCodeBy pointBytes pointBytesBy
-    point-out h = (rw (e, le-leb (2 ^ 32) index h) refl, rw (e, le-leb (2 ^ 32) index h) refl)
+    point-turned c is f =
+        let no : eqb (pointRefusal index (axisCount p) (length out)) 0 ≡ false = ne-eqb _ 0 (λ z. f (is ∙ z)) in
+        (rw e is, rw (e, no) refl)
 
-    module _ (h : index < 2 ^ 32) where
-      pub point-no-room : length out < 8 * axisCount p → (13 ≡ pointCode bytes index out) × (out ≡ pointBytes bytes index out)
-      unfolding pointCode pointCodeBy pointBytes pointBytesBy
-      point-no-room r =
-          (rw (e, lt-leb (2 ^ 32) index h, lt-ltb (length out) (8 * axisCount p) r) refl, rw (e, lt-leb (2 ^ 32) index h, lt-ltb (length out) (8 * axisCount p) r) refl)
-
-      -- what is put is the plan's point of the index, with as many axes as the plan has
-      pub point-done : {new : List ℕ} {axes n : ℕ} → new ≡ wordBytes (pointOf p n) ++ drop (8 * axes) out → n ≡ index → axes ≡ axisCount p
-          → 8 * axes ≤ length out → (0 ≡ pointCode bytes index out) × (new ≡ pointBytes bytes index out)
-      unfolding pointCode pointCodeBy pointBytes pointBytesBy
-      point-done put en ea r =
-          let room = le-ltb (length out) (8 * axisCount p) (omega arith) in
-          (rw (e, lt-leb (2 ^ 32) index h, room) refl, put ∙ rw (e, lt-leb (2 ^ 32) index h, room, en, ea) refl)
+    -- what is put is the plan's point of the index, with as many axes as the plan has
+    pub point-done : {new : List ℕ} {axes n : ℕ} → 0 ≡ pointRefusal index (axisCount p) (length out)
+        → new ≡ wordBytes (pointOf p n) ++ drop (8 * axes) out → n ≡ index → axes ≡ axisCount p
+        → (0 ≡ pointCode bytes index out) × (new ≡ pointBytes bytes index out)
+    unfolding pointCode pointCodeBy pointBytes pointBytesBy
+    point-done is put en ea = (rw e is, put ∙ rw (e, ← is, en, ea) refl)

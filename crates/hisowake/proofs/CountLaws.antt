@@ -1,4 +1,4 @@
--- The window count: windows out of bytes, what putting S and the bound leaves, and each answer from the tests that lead to it. Assumes nothing.
+-- The window count: when a window is turned down, what putting S and the bound leaves, and each answer from the tests that lead to it. Assumes nothing.
 use mathlib.Core.Path.{_≡_, refl, _∙_}
 use mathlib.Core.Bool.{true, false, and-eq-true-iff}
 use mathlib.Core.Logic.{⊎-elim}
@@ -6,13 +6,11 @@ use mathlib.Core.List.{List, [], _∷_, _++_}
 use Prim.Native.Nat.{ℕ, _+_, _*_, _^_, _<_, _≤_}
 use native.Mathlib.Omega.{arith}
 use lib.Dec.{eqb}
-use lib.ListN.{length, take, drop}
+use lib.ListN.{length, drop}
 use borrow.Author.Tests.{lt-ltb, le-ltb, eq-eqb, ne-eqb, eqb-true}
 use Rattle.numbers.specs.Choice.{choose}
 use Rattle.numbers.specs.Count.{count}
-use Rattle.numbers.specs.Listed.{padded}
 use Rattle.numbers.proofs.Cases.{lt-or-ge, eq-or-ne, true-or-false}
-use Rattle.numbers.proofs.ListedLaws.{listed-length, padded-take}
 use Rattle.bits.specs.Stream.{overwrite}
 use Rattle.plan.specs.Plan.{Plan, Valid}
 use Rattle.plan.specs.Reading.{refused, accepted, readPlan}
@@ -21,21 +19,13 @@ use Rattle.state.proofs.StateLaws.{Holds}
 use Rattle.window.specs.Counting.{isWindow}
 use Rattle.window.specs.Walking.{insideFrom, boundBy}
 use Rattle.window.proofs.PlanLaws.{count-held, bound-held}
-use Rattle.hisowake.specs.Bytes.{wordBytes, quadAt, windowIn}
+use Rattle.words.specs.Bytes.{wordBytes, windowIn}
+use Rattle.words.proofs.ByteLaws.{length-words}
 use Rattle.hisowake.specs.Calls.{isWindowBytes, windowRefusal, answersOf, countRefusal, countCodeBy, countCode, countBytesBy, countBytes}
-use Rattle.hisowake.proofs.ByteLaws.{length-words}
 
--- ---- windows out of bytes
+-- ---- when a window is turned down
 
 module _ (bytes : List ℕ) (s : ℕ) where
-  pub window-length : length (windowIn bytes s) ≡ 2 * s
-  unfolding windowIn
-  window-length = listed-length (quadAt bytes) (2 * s)
-
-  -- what the code passes on of the twelve numbers
-  pub window-front : take (2 * s) (padded 12 (windowIn bytes s)) ≡ windowIn bytes s
-  window-front = padded-take 12 (windowIn bytes s) (2 * s) window-length
-
   pub bytes-long : (length bytes ≡ 8 * s → ⊥) → 14 ≡ windowRefusal bytes s
   unfolding windowRefusal isWindowBytes
   bytes-long f = rw (ne-eqb (length bytes) (8 * s) f) refl

@@ -11,13 +11,17 @@ use Rattle.plan.specs.Reading.{Reading, refused, accepted, readPlan}
 use Rattle.points.specs.Point.{axisCount, pointOf}
 use Rattle.state.specs.State.{pick}
 use Rattle.window.specs.Counting.{insideCount, boundOf, isWindow}
-use Rattle.hisowake.specs.Bytes.{wordBytes, windowIn}
+use Rattle.words.specs.Bytes.{wordBytes, windowIn}
 
 -- ---- point: the reading's numbers, 11, 13
 
+-- of an index, and the room for so many axes
+unfoldable pub pointRefusal : ℕ → ℕ → ℕ → ℕ
+pointRefusal index s room = choose (leb (2 ^ 32) index) 11 (choose (ltb room (8 * s)) 13 0)
+
 unfoldable pub pointCodeBy : Reading → ℕ → List ℕ → ℕ
 pointCodeBy (refused n) index out = n
-pointCodeBy (accepted p) index out = choose (leb (2 ^ 32) index) 11 (choose (ltb (length out) (8 * axisCount p)) 13 0)
+pointCodeBy (accepted p) index out = pointRefusal index (axisCount p) (length out)
 
 unfoldable pub pointCode : List ℕ → ℕ → List ℕ → ℕ
 pointCode plan index out = pointCodeBy (readPlan plan) index out

@@ -6,36 +6,10 @@ ghost use mathlib.Core.Bool.{true};
 ghost use mathlib.Core.List.{_++_};
 ghost use Prim.Native.Nat.{_+_, _*_, _^_, _<_, _≤_};
 ghost use lib.ListN.{length, drop};
-ghost use Rattle.numbers.specs.Listed.{padded};
-ghost use Rattle.bits.specs.Stream.{overwrite};
 ghost use Rattle.plan.specs.Answer.{planAnswered, Accepted};
 ghost use Rattle.points.specs.Point.{pointOf};
-ghost use Rattle.hisowake.specs.Bytes.{bytesOf, wordBytes, quadAt, windowIn};
-ghost use Rattle.hisowake.specs.Calls.{pointCode, pointBytes, isWindowBytes, windowRefusal, answersOf, countRefusal, countCode, countBytes};
-
-// Writes the 8 bytes of `x` to `out` from `at` on, most significant first.
-fn put_word(out: &mut [u8], at: usize, x: u64)
-    requires { ⌜ at + 8 ≤ length (now out) ⌝ }
-    ensures { λ r. ⌜ now (out .exit) ≡ overwrite (now (out .entry)) at (bytesOf 8 x) ⌝ }
-{
-    let mut i = 0;
-    while i < 8 {
-        out[at + i] = ((x >> (8 * (7 - i))) % 256) as u8;
-        i += 1;
-    }
-}
-
-// Writes words to the front of `out`, 8 bytes each.
-fn put_words(out: &mut [u8], words: &[u64])
-    requires { ⌜ 8 * length (now words) ≤ length (now out) ⌝ }
-    ensures { λ r. ⌜ now (out .exit) ≡ overwrite (now (out .entry)) 0 (wordBytes (now (words .entry))) ⌝ }
-{
-    let mut i = 0;
-    while i < words.len() {
-        put_word(out, 8 * i, words[i]);
-        i += 1;
-    }
-}
+ghost use Rattle.words.specs.Bytes.{wordBytes};
+ghost use Rattle.hisowake.specs.Calls.{pointRefusal, pointCode, pointBytes, isWindowBytes, windowRefusal, answersOf, countRefusal, countCode, countBytes};
 
 // Writes the point of index `n` of a plan that the reader accepted.
 fn put_point(out: &mut [u8], a: PlanRead, n: u64)
@@ -46,7 +20,21 @@ fn put_point(out: &mut [u8], a: PlanRead, n: u64)
     let bases = a.bases;
     let directions = state::plan_directions(a);
     let x = points::point(a.family, axes, &bases, &directions, n);
-    put_words(out, &x[..axes]);
+    words::put_words(out, &x[..axes]);
+}
+
+// The number by which a point of an accepted plan is turned down, or 0: `room` is the length of the buffer.
+fn point_refusal(index: u64, axes: usize, room: usize) -> u64
+    requires { ⌜ axes ≤ 6 ⌝ }
+    ensures { λ r. ⌜ r ≡ pointRefusal index axes room ⌝ }
+{
+    if 4294967296 <= index {
+        return refusal::OUT_OF_RANGE;
+    }
+    if room < 8 * axes {
+        return refusal::BUFFER_TOO_SMALL;
+    }
+    0
 }
 
 // Writes the point of any index to the front of `out`: 8 bytes an axis, most significant first. Answers 0 or the refusal's number.
@@ -58,39 +46,12 @@ pub extern "C" fn hisowake_point(plan: &[u8], index: u64, out: &mut [u8]) -> u64
     if a.code != 0 {
         return a.code;
     }
-    let needed = 8 * a.axes;
-    if 4294967296 <= index {
-        return refusal::OUT_OF_RANGE;
-    }
-    if out.len() < needed {
-        return refusal::BUFFER_TOO_SMALL;
+    let code = point_refusal(index, a.axes, out.len());
+    if code != 0 {
+        return code;
     }
     put_point(out, a, index);
     0
-}
-
-// Number `k` of a window, out of its 4 bytes.
-fn quad(bytes: &[u8], k: usize) -> u64
-    requires { ⌜ (4 * k + 4 ≤ length (now bytes)) × (k < 12) ⌝ }
-    ensures { λ r. ⌜ r ≡ quadAt (now (bytes .entry)) k ⌝ }
-{
-    let high = (bytes[4 * k] as u64) * 16777216 + (bytes[4 * k + 1] as u64) * 65536;
-    high + (bytes[4 * k + 2] as u64) * 256 + (bytes[4 * k + 3] as u64)
-}
-
-// The numbers of a window out of its bytes: u and q for each axis, and then zeros.
-fn window_numbers(bytes: &[u8], axes: usize) -> [u64; 12]
-    requires { ⌜ (axes ≤ 6) × (8 * axes ≤ length (now bytes)) ⌝ }
-    ensures { λ r. ⌜ r ≡ padded 12 (windowIn (now (bytes .entry)) axes) ⌝ }
-{
-    let mut w = [0u64; 12];
-    let mut k = 0;
-    while k < 2 * axes {
-        let x = quad(bytes, k);
-        w[k] = x;
-        k += 1;
-    }
-    w
 }
 
 // 0 where these bytes are a window of so many axes, 8 bytes an axis and each u and q in its range; else the number that turns it down.
@@ -101,7 +62,7 @@ fn window_refusal(bytes: &[u8], axes: usize) -> u64
     if bytes.len() != 8 * axes {
         return refusal::BAD_WINDOW;
     }
-    let w = window_numbers(bytes, axes);
+    let w = words::window_numbers(bytes, axes);
     let end = 2 * axes;
     if window::is_window(&w[..end], axes) {
         return 0;
@@ -117,7 +78,7 @@ fn put_count(out: &mut [u8], a: PlanRead, start: u64, count: u64, window: &[u8])
     let axes = a.axes;
     let bases = a.bases;
     let directions = state::plan_directions(a);
-    let w = window_numbers(window, axes);
+    let w = words::window_numbers(window, axes);
     let end = 2 * axes;
     let inside = window::count_inside(
         a.family,
@@ -129,7 +90,7 @@ fn put_count(out: &mut [u8], a: PlanRead, start: u64, count: u64, window: &[u8])
         &w[..end],
     );
     let bound = window::bound(a.family, axes, &bases, &directions, count);
-    put_words(out, &[inside, bound]);
+    words::put_words(out, &[inside, bound]);
 }
 
 // The number by which a count of an accepted plan is turned down, or 0: `window` is the window's own, `room` the length of the buffer.

@@ -25,10 +25,10 @@ use Rattle.state.proofs.StateLaws.{blank-foreign}
 use Rattle.sampler.specs.Calls.{readState, readSpec, jumpSpec, jumpBuf}
 use Rattle.sampler.specs.declared.Jumped.{Jumped}
 use Rattle.sampler.proofs.CaseLaws.{jump-foreign, jump-out, jump-no-room, jump-done}
-use Rattle.hisowake.specs.Bytes.{wordBytes}
-use Rattle.hisowake.specs.Calls.{pointCode, pointBytes}
-use Rattle.hisowake.proofs.ByteLaws.{length-words, words-append, words-drop}
-use Rattle.hisowake.proofs.CallLaws.{point-refused, point-out, point-no-room, point-done}
+use Rattle.words.specs.Bytes.{wordBytes}
+use Rattle.hisowake.specs.Calls.{pointRefusal, pointCode, pointBytes}
+use Rattle.words.proofs.ByteLaws.{length-words, words-append, words-drop}
+use Rattle.hisowake.proofs.CallLaws.{point-refused, point-out, point-no-room, point-none, point-turned, point-done}
 
 -- what the call answers and leaves is what a reading, and then a jump on the words, answer and leave
 abbrev pub AsSampler : List ℕ → ℕ → List ℕ → List ℕ → Type 0
@@ -72,8 +72,13 @@ module _ (plan : List ℕ) (index : ℕ) (words rest : List ℕ) (short : length
         → (0 ≡ pointCode plan index (wordBytes words ++ rest))
         × (wordBytes (pointOf p index ++ drop (axisCount p) words) ++ rest ≡ pointBytes plan index (wordBytes words ++ rest))
     done h r =
-        let w = point-done plan index (wordBytes words ++ rest) p e h {axes = axisCount p} {n = index} refl refl refl (omega (arith, out-length)) in
+        let clear = point-none index (axisCount p) (length (wordBytes words ++ rest)) h (omega (arith, out-length)) in
+        let w = point-done plan index (wordBytes words ++ rest) p e {axes = axisCount p} {n = index} clear refl refl refl in
         (w .0, sym (front r) ∙ w .1)
+
+    turned : (c : ℕ) → c ≡ pointRefusal index (axisCount p) (length (wordBytes words ++ rest)) → (c ≡ 0 → ⊥)
+        → (c ≡ pointCode plan index (wordBytes words ++ rest)) × (wordBytes words ++ rest ≡ pointBytes plan index (wordBytes words ++ rest))
+    turned = point-turned plan index (wordBytes words ++ rest) p e
 
     jumped : (pointCode plan index (wordBytes words ++ rest) ≡ jumpSpec (made p 0 0 0) index words .code)
         × (pointBytes plan index (wordBytes words ++ rest) ≡ wordBytes (jumpBuf (made p 0 0 0) index words) ++ rest)
@@ -83,10 +88,10 @@ module _ (plan : List ℕ) (index : ℕ) (words rest : List ℕ) (short : length
         ⊎-elim
         (λ h.
         ⊎-elim
-        (λ r. same s 13 words (jump-no-room s index words known h r) (point-no-room plan index (wordBytes words ++ rest) p e h (omega (arith, out-length))))
+        (λ r. same s 13 words (jump-no-room s index words known h r) (turned 13 (point-no-room index (axisCount p) _ h (omega (arith, out-length))) (λ z. omega arith)))
         (λ r. same s 0 (pointOf p index ++ drop (axisCount p) words) (rw (plan-in-made p v 0 0 0) at (jump-done s index words known h r)) (done h r))
         (lt-or-ge (length words) (axisCount p)))
-        (λ h. same s 11 words (jump-out s index words known h) (point-out plan index (wordBytes words ++ rest) p e h))
+        (λ h. same s 11 words (jump-out s index words known h) (turned 11 (point-out index (axisCount p) _ h) (λ z. omega arith)))
         (lt-or-ge index (2 ^ 32))
 
     from-accepted : AsSampler plan index words rest

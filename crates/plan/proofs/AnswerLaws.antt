@@ -14,6 +14,12 @@ use Rattle.binary.proofs.DegreeLaws.{degree-of}
 use Rattle.plan.specs.Plan.{Axis, noAxis, Plan, halton, sobol, ValidAxes, Valid}
 use Rattle.plan.specs.Reading.{accepted}
 use Rattle.plan.specs.Answer.{polynomialsOf, msOf, answerOf, axisAt, axesOf, planBy, planOf}
+use Rattle.plan.proofs.PlaceLaws.{length-snoc}
+
+pub length-axes : (ps ms : List ℕ) (s : ℕ) → length (axesOf ps ms s) ≡ s
+unfolding axesOf
+length-axes ps ms zero = refl
+length-axes ps ms (suc s) = omega (arith, length-snoc (axesOf ps ms s) (axisAt ps ms s), length-axes ps ms s)
 
 pub length-polynomials : (axes : List Axis) → length (polynomialsOf axes) ≡ length axes
 unfolding polynomialsOf

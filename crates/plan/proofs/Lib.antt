@@ -9,4 +9,6 @@ pub mod FrontLaws
 pub mod AcceptLaws
 pub mod RefusalLaws
 pub mod AnswerLaws
+pub mod BlankLaws
+pub mod PartLaws
 pub mod Examples

@@ -8,8 +8,13 @@ use lib.ListN.{length, replicate, take, drop, getD}
 use Rattle.numbers.specs.Listed.{padded}
 use Rattle.binary.specs.Polynomial.{degreeOf}
 use Rattle.plan.specs.Plan.{Axis, Plan, halton, sobol, Valid}
-use Rattle.plan.specs.Reading.{Reading, refused, accepted}
+use Rattle.plan.specs.Reading.{Step, refuse, got, Reading, refused, accepted}
 use Rattle.plan.specs.declared.PlanRead.{PlanRead}
+
+-- a part's answer: code 0 with a value and the bits after it, or a refusal's number
+abbrev pub stepOf : {A : Type 0} → ℕ → A → List ℕ → Step A
+stepOf zero a l = got a l
+stepOf (suc n) a l = refuse (suc n)
 
 unfoldable pub polynomialsOf : List Axis → List ℕ
 polynomialsOf [] = []

@@ -7,7 +7,7 @@ use native.Mathlib.Omega.{arith}
 use lib.ListN.{length, getD, length-append}
 use Rattle.numbers.specs.Listed.{listed}
 use Rattle.numbers.proofs.ListedLaws.{listed-length, listed-at, padded-at}
-use Rattle.blocks.specs.Filling.{rows}
+use Rattle.columns.specs.Rows.{rows}
 use Rattle.points.specs.Arrays.{numeratorAt, numeratorFrom, pointAt, pointsAt}
 
 module _ (family axes : ℕ) (bases vs : List ℕ) where

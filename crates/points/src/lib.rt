@@ -3,7 +3,7 @@ ghost use mathlib.Core.Path.{_≡_};
 ghost use mathlib.Core.List.{_++_};
 ghost use Prim.Native.Nat.{_+_, _*_, _^_, _<_, _≤_};
 ghost use lib.ListN.{length, take, drop};
-ghost use Rattle.blocks.specs.Filling.{Column, Columns};
+ghost use Rattle.columns.specs.Rows.{Column, Columns};
 ghost use Rattle.points.specs.Arrays.{numeratorAt, numeratorFrom, pointAt, denominatorAt, pointsAt, Arrays};
 
 // The numerator of index `n` on axis `i`, by a jump.
@@ -130,10 +130,10 @@ pub fn fill_column(
     if family == 2 {
         let first = 32 * i;
         let last = first + 32;
-        blocks::sobol_column(&directions[first..last], n, lo, hi, s, j, out);
+        sobol_blocks::sobol_column(&directions[first..last], n, lo, hi, s, j, out);
         return;
     }
-    blocks::halton_column(family, bases[i], n, lo, hi, s, j, out);
+    halton_blocks::halton_column(family, bases[i], n, lo, hi, s, j, out);
 }
 
 // Writes the rows `lo` to `hi`, axis after axis: each is a point, row 0 being that of index `n`.
@@ -172,7 +172,7 @@ pub fn fill(
 {
     let mut i = 0;
     while i < k {
-        let end = blocks::least(i + 2048, k);
+        let end = columns::least(i + 2048, k);
         fill_rows(family, axes, bases, directions, n, i, end, out);
         i = end;
     }

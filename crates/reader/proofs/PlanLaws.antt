@@ -1,11 +1,11 @@
 -- Reading a whole plan: the bits after the last field, a family's body, and the header. Assumes nothing.
 use mathlib.Core.Path.{_≡_, refl, sym, ap, _∙_}
 use mathlib.Core.Bool.{Bool, true, false, not, _||_}
-use mathlib.Core.List.{List, _∷_, []}
-use Prim.Native.Nat.{ℕ, zero, suc, _+_, _*_, _<_, _≤_}
+use mathlib.Core.List.{List}
+use Prim.Native.Nat.{ℕ, _+_, _*_, _<_, _≤_}
 use native.Mathlib.Omega.{arith}
 use lib.Dec.{ltb, eqb}
-use lib.ListN.{length, take, drop, replicate, length-drop, length-append}
+use lib.ListN.{length, take, drop, replicate, length-drop}
 use lib.Seq.{take-all, length-take-le, drop-drop}
 use borrow.Author.Tests.{ltb-true, ltb-false, le-leb, lt-leb, eq-eqb, ne-eqb}
 use Rattle.numbers.specs.Listed.{padded}
@@ -13,11 +13,13 @@ use Rattle.bits.specs.Stream.{ofBits, bitsOf, fieldAt}
 use Rattle.bits.proofs.StreamLaws.{length-bits}
 use Rattle.plan.specs.Plan.{Plan, halton, sobol}
 use Rattle.plan.specs.Reading.{Step, got, refuseIf, field, andThen, readBody, readFields, refused, badTail, closed, finish, readPlan}
-use Rattle.plan.specs.Answer.{axisAt, axesOf, answerOf}
+use Rattle.plan.specs.Answer.{axesOf, answerOf, stepOf}
 use Rattle.plan.specs.declared.PlanRead.{PlanRead}
-use Rattle.reader.specs.Parts.{stepOf, BasesSay, AxesSay}
-use Rattle.reader.proofs.BlankLaws.{padded-front}
-use Rattle.reader.proofs.PartLaws.{field-value, finish-stops}
+use Rattle.plan.proofs.AnswerLaws.{length-axes}
+use Rattle.halton_reader.specs.Bases.{BasesSay}
+use Rattle.sobol_reader.specs.Axes.{AxesSay}
+use Rattle.plan.proofs.BlankLaws.{padded-front}
+use Rattle.plan.proofs.PartLaws.{field-value, finish-stops}
 
 -- ---- the bits after the last field
 
@@ -80,11 +82,6 @@ module _ (bytes : List ℕ) (family axes : ℕ) {code at : ℕ} {bases : List �
         let n : length (take axes bases) ≡ axes = length-take-le axes bases (omega arith) in
         let whole : bases ≡ padded 6 (take axes bases) = padded-front 6 axes bases (h .size) most (h .blank) in
         rw (closes _ (halton family) code _ _ halton-body z et, b, n, ← whole) refl
-
-length-axes : (ps ms : List ℕ) (n : ℕ) → length (axesOf ps ms n) ≡ n
-unfolding axesOf
-length-axes ps ms zero = refl
-length-axes ps ms (suc n) = length-append (axesOf ps ms n) (axisAt ps ms n ∷ []) ∙ omega (arith, length-axes ps ms n)
 
 module _ (bytes : List ℕ) (axes : ℕ) {code at : ℕ} {ps ms : List ℕ} (h : AxesSay bytes axes code at ps ms) where
   sobol-body : readBody true 2 axes (drop 5 (bitsOf bytes)) ≡ andThen (stepOf code (axesOf ps ms axes) (drop at (bitsOf bytes))) λ x r. got (sobol x) r

@@ -17,7 +17,7 @@ use Rattle.numbers.proofs.Cases.{lt-iff}
 use Rattle.numbers.proofs.CountLaws.{count-ext, count-parts}
 use Rattle.discrepancy.specs.Bound.{factor, haltonAxes}
 use Rattle.discrepancy.proofs.FitLaws.{bound-fits}
-use Rattle.blocks.specs.Filling.{Column}
+use Rattle.columns.specs.Rows.{Column}
 use Rattle.points.specs.Arrays.{numeratorAt, numeratorFrom, denominatorAt}
 use Rattle.window.specs.Counting.{uOf, qOf, boundOver, isCut, areCuts, isWindow, Cuts}
 use Rattle.window.specs.Walking.{insideBy, insideFrom, boundBy, cutLimit, keepIf, Flags, marked, Marked, Room}

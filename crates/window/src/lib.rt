@@ -124,7 +124,7 @@ pub fn count_inside(
     let mut t = 0;
     let mut i = 0;
     while i < k {
-        let end = blocks::least(i + 1024, k);
+        let end = columns::least(i + 1024, k);
         t = t + count_part(family, axes, bases, directions, n + (i as u64), end - i, w);
         i = end;
     }

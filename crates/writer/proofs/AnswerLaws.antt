@@ -11,8 +11,9 @@ use Rattle.bits.specs.Stream.{toBits, AllBelow, overwrite, bytesFor}
 use Rattle.bits.proofs.PackLaws.{packed-front}
 use Rattle.plan.specs.Plan.{Plan, planBits, spell}
 use Rattle.plan.proofs.SpellingLaws.{length-spell, below-plan-bits}
-use Rattle.writer.specs.Parts.{Put, Written, writtenIf}
-use Rattle.writer.proofs.PartLaws.{put-then}
+use Rattle.axes_writer.specs.Parts.{Put}
+use Rattle.axes_writer.proofs.PartLaws.{put-then}
+use Rattle.writer.specs.Parts.{Written, writtenIf}
 
 -- the plan's bits were put into a buffer, and len is how many bytes they need
 module _ (p : Plan) {z b : List ℕ} {n : ℕ} (len : ℕ) (plan : Put z b 0 (planBits p) n) (el : len ≡ bytesFor n) where

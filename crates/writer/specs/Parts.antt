@@ -1,13 +1,12 @@
--- What writing a plan, or a part of one, leaves in a buffer. Definitions only.
+-- Which plans can be written, and what writing one leaves in a buffer. Definitions only.
 use mathlib.Core.Path.{_≡_}
 use mathlib.Core.Bool.{Bool, true, false}
 use mathlib.Core.List.{List, _++_}
-use Prim.Native.Nat.{ℕ, _+_, _≤_, _<_}
+use Prim.Native.Nat.{ℕ, _≤_, _<_}
 use lib.Dec.{ltb}
 use lib.ListN.{length, drop, getD}
 use Rattle.numbers.specs.Choice.{choose}
 use Rattle.binary.specs.Polynomial.{degreeOf}
-use Rattle.bits.specs.Stream.{bitsOf, overwrite}
 use Rattle.plan.specs.Plan.{Plan, spell}
 
 -- what arrays of a plan have to meet for the writer: no more than six axes, bases from 1 up, degrees up to 12
@@ -19,12 +18,6 @@ pub record Writable (family axes : ℕ) (bases ps ms : List ℕ) : Type 0 where
   pub ms-long : 72 ≤ length ms
   pub base : (k : ℕ) → k < axes → family < 2 → 1 ≤ getD bases k 0
   pub degree : (k : ℕ) → k < axes → degreeOf (getD ps k 0) ≤ 12
-
--- a part was written: its bits stand from `start` on, all else as found, and `next` is the bit after it
-pub record Put (old new : List ℕ) (start : ℕ) (x : List ℕ) (next : ℕ) : Type 0 where
-  pub bits : bitsOf new ≡ overwrite (bitsOf old) start x
-  pub size : length new ≡ length old
-  pub after : next ≡ start + length x
 
 -- ---- the writer's answer for a plan and a buffer
 

@@ -1,13 +1,17 @@
--- One case law a return: the reading's answer, then the tests, say which. Assumes nothing.
-use mathlib.Core.Path.{_≡_}
+-- One case law a return: the reading's answer, then the refusal's number, say which. Assumes nothing.
+use mathlib.Core.Path.{_≡_, sym, ap, _∙_}
 use native.Mathlib.Omega.{arith}
 use borrow.Author.Needs.{needs}
+use Prim.Native.Nat.{ℕ}
+use lib.ListN.{length}
 use Rattle.bits.proofs.StreamLaws.{below-of}
 use Rattle.plan.specs.Reading.{accepted, readPlan}
 use Rattle.plan.specs.Answer.{planAnswered, Accepted}
+use Rattle.points.specs.Point.{axisCount}
 use Rattle.writer.proofs.RoundTrip.{read-refused}
 use Rattle.state.proofs.StateLaws.{accepted-few}
-use Rattle.hisowake.proofs.CallLaws.{answer-accepted, accepted-axes, point-refused, point-out, point-no-room, point-done}
+use Rattle.hisowake.specs.Calls.{pointRefusal}
+use Rattle.hisowake.proofs.CallLaws.{answer-accepted, accepted-axes, point-zero, point-refused, point-turned, point-done}
 use Rattle.hisowake.proofs.hisowake_point.Statement.{statement}
 use Rattle.hisowake.proofs.hisowake_point.Tie as tie
 
@@ -19,6 +23,18 @@ known c =
     let r = c .before .before in
     answer-accepted _ _ (below-of 256 _ (λ i. omega (arith, r .before .before .shared-slice-known .given i))) (r .read-plan .ensures) (omega arith)
 
+-- the room is tested for as many axes as the plan has
+tested : (c : tie.After-point-refusal)
+    → let r = c .before .before .before in
+    let a = r .before .before .before .args in
+    c .point-refusal .result ≡ pointRefusal (a .index) (axisCount (planAnswered (r .read-plan .result))) (length (a .out .now))
+tested c =
+    let a = c .before .before .before .before .before .before .args in
+    c .point-refusal .ensures ∙ ap (λ (s : ℕ). pointRefusal (a .index) s (length (a .out .now))) (accepted-axes (known (c .before) .1))
+
+passed : (c : tie.Else2) → c .before .point-refusal .result ≡ 0
+passed c = omega arith
+
 read-plan-requires : tie.Need-read-plan-requires
 read-plan-requires c κs = tt
 
@@ -28,33 +44,30 @@ returns c =
     let a = r .before .before .before .args in
     point-refused (a .plan .now) (a .index) (a .out .now) _ (read-refused _ _ (r .read-plan .ensures) (λ e. omega arith))
 
-mul-needed : tie.Need-mul-needed
-mul-needed c = omega (arith, accepted-few (known (c .before) .1))
+point-refusal-requires : tie.Need-point-refusal-requires
+point-refusal-requires c κs = omega (arith, accepted-few (known c .1))
 
 returns-2 : tie.Need-returns-2
 returns-2 c =
     let a = c .before .before .before .before .before .before .before .args in
-    point-out (a .plan .now) (a .index) (a .out .now) _ (known (c .before .before) .0) (omega arith)
-
-returns-3 : tie.Need-returns-3
-returns-3 c =
-    let a = c .before .before .before .before .before .before .before .before .args in
-    let k = known (c .before .before .before) in
-    point-no-room (a .plan .now) (a .index) (a .out .now) _ (k .0) (omega arith) (omega (arith, accepted-axes (k .1)))
+    point-turned (a .plan .now) (a .index) (a .out .now) _ (known (c .before .before) .0) (c .before .point-refusal .result) (tested (c .before)) (λ e. omega arith)
 
 put-point-requires : tie.Need-put-point-requires
-put-point-requires c κs = (known (c .before .before .before .before) .1, omega arith, omega arith)
+put-point-requires c κs =
+    let r = c .before .before in
+    let z = point-zero _ _ _ (sym (r .point-refusal .ensures) ∙ passed (c .before)) in
+    (known (r .before) .1, omega (arith, z .0), omega (arith, z .1))
 
 same-length : tie.Need-same-length
 same-length c = search needs
 
-returns-4 : tie.Need-returns-4
-returns-4 c =
+returns-3 : tie.Need-returns-3
+returns-3 c =
     let p = c .before .before in
-    let e = p .before .before .before .before .before in
-    let a = e .before .before .before .before .before .args in
-    let k = known e in
-    point-done (a .plan .now) (a .index) (a .out .now) _ (k .0) (omega arith) (p .put-point .ensures) (omega arith) (accepted-axes (k .1)) (omega arith)
+    let r = p .before .before .before in
+    let a = r .before .before .before .before .before .before .args in
+    let k = known (r .before) in
+    point-done (a .plan .now) (a .index) (a .out .now) _ (k .0) (sym (passed (p .before .before)) ∙ tested r) (p .put-point .ensures) (omega arith) (accepted-axes (k .1))
 
 pub hisowake-point-spec : {M : Type 1} → statement M
 hisowake-point-spec =
@@ -62,9 +75,8 @@ hisowake-point-spec =
     (tie.spec
     read-plan-requires
     returns
-    mul-needed
+    point-refusal-requires
     returns-2
-    returns-3
     put-point-requires
     same-length
-    returns-4)
+    returns-3)

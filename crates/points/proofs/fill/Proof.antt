@@ -5,8 +5,8 @@ use native.Mathlib.Nat.{mul-le-mul-right}
 use native.Mathlib.Omega.{arith}
 use Prim.Native.Nat.{ℕ, _-_, _*_, _≤_, _<_}
 use lib.ListN.{drop}
-use Rattle.blocks.specs.Filling.{Columns}
-use Rattle.blocks.proofs.FillLaws.{columns-empty, columns-join, columns-rows, columns-list}
+use Rattle.columns.specs.Rows.{Columns}
+use Rattle.columns.proofs.ColumnLaws.{columns-empty, columns-join, columns-rows, columns-list}
 use Rattle.points.specs.Arrays.{numeratorFrom}
 use Rattle.points.proofs.FillLaws.{points-at-rows}
 use Rattle.points.proofs.fill.Statement.{statement}

@@ -3,8 +3,9 @@
 use native.Mathlib.Omega.{arith}
 use Prim.Native.Nat.{_+_}
 use borrow.Author.Needs.{needs}
-use Rattle.blocks.specs.Filling.{haltonFrom, sobolFrom}
-use Rattle.blocks.proofs.FillLaws.{column-as}
+use Rattle.halton_blocks.specs.Filling.{haltonFrom}
+use Rattle.sobol_blocks.specs.Filling.{sobolFrom}
+use Rattle.columns.proofs.ColumnLaws.{column-as}
 use Rattle.points.specs.Arrays.{numeratorFrom}
 use Rattle.points.proofs.ArrayLaws.{base-range, numerator-by-part, numerator-by-base}
 use Rattle.points.proofs.fill_column.Statement.{statement}

@@ -1,8 +1,8 @@
 -- `points::fill_rows` meets its contract: the columns of the first i axes are written. Assumes nothing.
 use native.Mathlib.Omega.{arith}
 use Prim.Native.Nat.{_-_, _≤_}
-use Rattle.blocks.specs.Filling.{Columns}
-use Rattle.blocks.proofs.FillLaws.{columns-none, columns-more, columns-to}
+use Rattle.columns.specs.Rows.{Columns}
+use Rattle.columns.proofs.ColumnLaws.{columns-none, columns-more, columns-to}
 use Rattle.points.specs.Arrays.{numeratorFrom}
 use Rattle.points.proofs.fill_rows.Statement.{statement}
 use Rattle.points.proofs.fill_rows.Tie as tie

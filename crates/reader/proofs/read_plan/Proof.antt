@@ -4,7 +4,7 @@ use Prim.Native.Nat.{_*_, _≤_}
 use native.Mathlib.Omega.{arith}
 use lib.ListN.{length}
 use Rattle.plan.specs.Answer.{answerOf}
-use Rattle.reader.proofs.PartLaws.{long-field, field-below}
+use Rattle.plan.proofs.PartLaws.{long-field, field-below}
 use Rattle.reader.proofs.PlanLaws.{FamilyRead, AxesRead, family-short, family-bad, axes-short, axes-none, axes-many, to-sobol, to-halton}
 use Rattle.reader.proofs.read_plan.Statement.{statement}
 use Rattle.reader.proofs.read_plan.Tie as tie

@@ -4,7 +4,8 @@ use Prim.Native.Nat.{_<_}
 use native.Mathlib.Omega.{arith}
 use lib.ListN.{take, length-take}
 use Rattle.plan.proofs.SpellingLaws.{length-bases-bits}
-use Rattle.writer.proofs.PartLaws.{put-field, put-header, whole-sobol, whole-halton}
+use Rattle.axes_writer.proofs.PartLaws.{put-field}
+use Rattle.writer.proofs.PlanLaws.{put-header, whole-sobol, whole-halton}
 use Rattle.writer.proofs.put_plan.Statement.{statement}
 use Rattle.writer.proofs.put_plan.Tie as tie
 

@@ -3,7 +3,7 @@ use borrow.Author.Needs.{needs}
 use native.Mathlib.Omega.{arith}
 use Rattle.bits.proofs.PackLaws.{as-bytes}
 use Rattle.plan.specs.Answer.{planOf}
-use Rattle.writer.proofs.PartLaws.{put-field}
+use Rattle.axes_writer.proofs.PartLaws.{put-field}
 use Rattle.writer.proofs.AnswerLaws.{no-room, has-room}
 use Rattle.writer.proofs.write_plan.Statement.{statement}
 use Rattle.writer.proofs.write_plan.Tie as tie

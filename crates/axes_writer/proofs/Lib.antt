@@ -1,0 +1,2 @@
+-- Laws of what writing a part leaves in a buffer.
+pub mod PartLaws

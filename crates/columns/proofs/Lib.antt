@@ -1,0 +1,2 @@
+-- Laws of columns of a buffer.
+pub mod ColumnLaws

@@ -1,0 +1,83 @@
+// Many points of a Halton axis in a row, written to a column of a buffer, by a table of its first points: every later run of as many is that
+// table and one number.
+ghost use Prim.Native.Nat.{ℕ, _+_, _-_, _*_, _^_, _<_, _≤_};
+ghost use lib.ListN.{length, getD};
+ghost use Rattle.images.specs.Images.{imageIn};
+ghost use Rattle.columns.specs.Rows.{Column};
+ghost use Rattle.tables.specs.Tables.{Images, Table, shifted, tabled};
+ghost use Rattle.halton_blocks.specs.Filling.{haltonFrom};
+
+// Writes column `j` of the rows `lo` to `hi`: `base` and the table's entries, from entry `r` on.
+fn run(base: u64, t: &[u64], r: usize, lo: usize, hi: usize, s: usize, j: usize, out: &mut [u64])
+    requires { ⌜ (base < 2 ^ 40) × (lo ≤ hi) × (hi - lo + r ≤ length (now t)) × (j < s) × (hi * s ≤ length (now out)) ⌝ }
+    requires { ⌜ ((x : ℕ) → x < hi - lo + r → getD (now t) x 0 < 2 ^ 40) ⌝ }
+    ensures { λ v. ⌜ Column (shifted base (now (t .entry)) lo r) lo hi s j (now (out .entry)) (now (out .exit)) ⌝ }
+{
+    let mut i = lo;
+    while i < hi {
+        out[i * s + j] = base + t[i - lo + r];
+        i += 1;
+    }
+}
+
+// Writes column `j` of the rows `lo` to `hi`, row 0 being index `n`, a table's length at a time: `l` are the images of base `b`, and `t` its
+// first `size` points.
+fn fill_tiles(
+    b: u64,
+    l: &[u64],
+    size: usize,
+    t: &[u64],
+    n: u64,
+    lo: usize,
+    hi: usize,
+    s: usize,
+    j: usize,
+    out: &mut [u64],
+)
+    requires { ⌜ (2 ≤ b) × (b ≤ 256) × (256 ≤ length (now l)) × Images b (now l) ⌝ }
+    requires { ⌜ (size ≤ 256) × (256 ≤ length (now t)) × Table (imageIn (now l)) b size (now t) ⌝ }
+    requires { ⌜ (n + hi ≤ 2 ^ 32) × (lo ≤ hi) × (j < s) × (hi * s ≤ length (now out)) ⌝ }
+    ensures { λ v. ⌜ Column (tabled (now (l .entry)) b n) lo hi s j (now (out .entry)) (now (out .exit)) ⌝ }
+{
+    let mut i = lo;
+    while i < hi {
+        let r = (n + (i as u64)) % (size as u64);
+        let base = tables::jump(b, l, n + (i as u64) - r);
+        let end = columns::least(i + (size - (r as usize)), hi);
+        run(base, t, r as usize, i, end, s, j, out);
+        i = end;
+    }
+}
+
+// How many points a table may have, for `m` rows of base `b`: the base at least, and then no more than there are rows.
+fn table_limit(b: u64, m: usize) -> usize
+    requires { ⌜ b ≤ 256 ⌝ }
+    ensures { λ r. ⌜ r ≤ 256 ⌝ }
+{
+    if m < (b as usize) {
+        return b as usize;
+    }
+    columns::least(m, 256)
+}
+
+// Writes column `j` of the rows `lo` to `hi`: the numerators in base `b`, row 0 being index `n`.
+pub fn halton_column(
+    family: u64,
+    b: u64,
+    n: u64,
+    lo: usize,
+    hi: usize,
+    s: usize,
+    j: usize,
+    out: &mut [u64],
+)
+    requires { ⌜ (2 ≤ b) × (b ≤ 256) × (n + hi ≤ 2 ^ 32) × (lo ≤ hi) × (j < s) × (hi * s ≤ length (now out)) ⌝ }
+    ensures { λ v. ⌜ Column (haltonFrom family b n) lo hi s j (now (out .entry)) (now (out .exit)) ⌝ }
+{
+    let mut l = [0; 256];
+    images::images(family, b, &mut l);
+    let mut t = [0; 256];
+    let limit = table_limit(b, hi - lo);
+    let size = tables::table(b, &l, limit, &mut t);
+    fill_tiles(b, &l, size, &t, n, lo, hi, s, j, out);
+}
