@@ -3,7 +3,7 @@
 use mathlib.Core.Path.{_≡_, refl, sym, ap, ap₂, _∙_}
 use mathlib.Core.List.{List, [], _∷_}
 use mathlib.Core.Logic.{⊎-elim}
-use Prim.Native.Nat.{ℕ, zero, suc, _+_, _/_, _%_, _^_, _≤_, _<_}
+use Prim.Native.Nat.{ℕ, zero, suc, _+_, _*_, _/_, _%_, _^_, _≤_, _<_}
 use native.Mathlib.Omega.{arith}
 use native.Mathlib.Numerals.{add-one}
 use native.Mathlib.Nat.{not-suc-le-zero, le-of-suc-le-suc, pow-suc}
@@ -32,6 +32,22 @@ times-digit-xor v a b = times-xor v (a % 2) (b % 2) (bitXor a b % 2) (omega arit
 pub times-lt : (k d v : ℕ) → v < 2 ^ k → times d v < 2 ^ k
 times-lt k zero v h = pow-pos k
 times-lt k (suc d) v h = h
+
+pub times-product : (c v : ℕ) → c < 2 → times c v ≡ c * v
+times-product zero v h = omega arith
+times-product (suc zero) v h = omega arith
+times-product (suc (suc c)) v h = absurd (omega arith)
+
+pub times-at-most : (d v : ℕ) → times d v ≤ v
+times-at-most zero v = omega arith
+times-at-most (suc d) v = omega arith
+
+-- a digit taken by a mask, as a factor
+pub times-masked : (g v : ℕ) → v * bitAnd g 1 ≡ times (g % 2) v
+times-masked g v = ap (λ (d : ℕ). v * d) (and-mask g 1) ∙ turned v (g % 2) ∙ sym (times-product (g % 2) v (omega arith))
+  where
+    turned : (x y : ℕ) → x * y ≡ y * x
+    turned x y = omega arith
 
 -- a digit tested by a mask
 pub times-set : (g v : ℕ) → bitAnd g 1 ≡ 1 → v ≡ times (g % 2) v

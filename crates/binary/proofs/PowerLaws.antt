@@ -12,7 +12,7 @@ use Rattle.binary.specs.Polynomial.{Degree, timesX}
 use Rattle.binary.specs.Power.{powerOfX}
 use Rattle.numbers.proofs.Cases.{lt-or-ge}
 use Rattle.binary.proofs.XorLaws.{eq-halves, xor-half, xor-odd, xor-assoc, xor-swap, xor-double, xor-shl}
-use Rattle.binary.proofs.MixLaws.{times-lt}
+use Rattle.binary.proofs.MixLaws.{times-lt, times-product}
 use Rattle.binary.proofs.PolynomialLaws.{top-cancel, top-keep, timesX-less, timesX-more, timesX-lt, powerOfX-lt}
 
 -- a times the polynomial of the n lowest digits of b, modulo p
@@ -36,11 +36,6 @@ digit-xor b = eq-halves (bitXor (b % 2) (b / 2 * 2)) b (xor-half (b % 2) (b / 2 
 
     odd : (b : ℕ) → (b % 2 + b / 2 * 2) % 2 ≡ b % 2
     odd b = omega arith
-
-times-product : (c v : ℕ) → c < 2 → times c v ≡ c * v
-times-product zero v h = omega arith
-times-product (suc zero) v h = omega arith
-times-product (suc (suc c)) v h = absurd (omega arith)
 
 pub no-digits : (top p n a : ℕ) → timesDigits top p n a 0 ≡ 0
 unfolding timesDigits

@@ -51,8 +51,8 @@ fn fill_tiles(
 
 // How many points a table may have, for `m` rows of base `b`: the base at least, and then no more than there are rows.
 fn table_limit(b: u64, m: usize) -> usize
-    requires { ⌜ b ≤ 256 ⌝ }
-    ensures { λ r. ⌜ r ≤ 256 ⌝ }
+    requires { ⌜ (1 ≤ b) × (b ≤ 256) ⌝ }
+    ensures { λ r. ⌜ (b ≤ r) × (r ≤ 256) ⌝ }
 {
     if m < (b as usize) {
         return b as usize;
@@ -60,8 +60,8 @@ fn table_limit(b: u64, m: usize) -> usize
     columns::least(m, 256)
 }
 
-// Writes column `j` of the rows `lo` to `hi`: the numerators in base `b`, row 0 being index `n`.
-pub fn halton_column(
+// Writes column `j` of the rows `lo` to `hi`: the numerators in base `b`, row 0 being index `n`, by a table.
+fn table_column(
     family: u64,
     b: u64,
     n: u64,
@@ -80,4 +80,47 @@ pub fn halton_column(
     let limit = table_limit(b, hi - lo);
     let size = tables::table(b, &l, limit, &mut t);
     fill_tiles(b, &l, size, &t, n, lo, hi, s, j, out);
+}
+
+// The same by a jump for each row.
+fn jump_column(
+    family: u64,
+    b: u64,
+    n: u64,
+    lo: usize,
+    hi: usize,
+    s: usize,
+    j: usize,
+    out: &mut [u64],
+)
+    requires { ⌜ (2 ≤ b) × (b ≤ 256) × (n + hi ≤ 2 ^ 32) × (lo ≤ hi) × (j < s) × (hi * s ≤ length (now out)) ⌝ }
+    ensures { λ v. ⌜ Column (haltonFrom family b n) lo hi s j (now (out .entry)) (now (out .exit)) ⌝ }
+{
+    let mut i = lo;
+    while i < hi {
+        let r = halton::jump(family, b, n + (i as u64));
+        out[i * s + j] = r.numerator;
+        i += 1;
+    }
+}
+
+// The same: a table is worth its making from 8 rows on.
+pub fn halton_column(
+    family: u64,
+    b: u64,
+    n: u64,
+    lo: usize,
+    hi: usize,
+    s: usize,
+    j: usize,
+    out: &mut [u64],
+)
+    requires { ⌜ (2 ≤ b) × (b ≤ 256) × (n + hi ≤ 2 ^ 32) × (lo ≤ hi) × (j < s) × (hi * s ≤ length (now out)) ⌝ }
+    ensures { λ v. ⌜ Column (haltonFrom family b n) lo hi s j (now (out .entry)) (now (out .exit)) ⌝ }
+{
+    if hi - lo < 8 {
+        jump_column(family, b, n, lo, hi, s, j, out);
+    } else {
+        table_column(family, b, n, lo, hi, s, j, out);
+    }
 }

@@ -3,13 +3,14 @@ use mathlib.Core.Path.{_≡_, sym, ap, ap₂, _∙_, subst}
 use mathlib.Core.Logic.{⊎-elim}
 use mathlib.Core.List.{List}
 use Prim.Native.Nat.{ℕ, _+_, _-_, _*_, _/_, _%_, _^_, _<_, _≤_}
-use native.Mathlib.Nat.{one-mul, mul-comm, add-mul, pow-zero, mul-le-mul-right, lt-of-lt-of-le, div-add-mod'}
+use native.Mathlib.Nat.{one-mul, mul-one, mul-comm, add-mul, pow-zero, mul-le-mul-right, lt-of-lt-of-le, div-add-mod'}
 use native.Mathlib.Omega.{arith}
-use lib.ListN.{getD}
+use lib.ListN.{length, getD, set}
+use lib.Seq.{getD-set-same, getD-set-other}
 use Rattle.numbers.specs.Depth.{depth, denominator}
 use Rattle.numbers.proofs.Cases.{lt-or-ge}
 use Rattle.numbers.proofs.DigitLaws.{pow-pos, pow-one-more, pow-up-to}
-use Rattle.numbers.proofs.NumeratorLaws.{numerator-zero, numerator-lt}
+use Rattle.numbers.proofs.NumeratorLaws.{numerator-lt}
 use Rattle.numbers.proofs.DepthLaws.{depth-reaches, denominator-lt}
 use Rattle.permutation.specs.Permutes.{Permutes}
 use Rattle.images.specs.Images.{imageIn, Imaged}
@@ -20,18 +21,6 @@ use Rattle.tables.proofs.SplitLaws.{numerator-split, numerator-digit, w
 
 -- an axis whose table of images is l
 module _ {b : ℕ} {l : List ℕ} (a : Images b l) (big : 2 ≤ b) where
-  -- the table of one point
-  pub table-none : (t : List ℕ) → getD t 0 0 ≡ 0 → Table (imageIn l) b 1 t
-  unfolding Starts numerator
-  table-none t e = record {
-    exponent = 0;
-    is = sym (pow-zero b);
-    starts = λ r h. first r (omega arith);
-  }
-    where
-      first : (r : ℕ) → r ≡ 0 → getD t r 0 ≡ numerator (imageIn l) b r
-      first r q = rw q (e ∙ sym (numerator-zero (imageIn l) b (a .first) (depth b)))
-
   -- every point of the axis is below the denominator
   pub point-below : b ≤ 256 → (n : ℕ) → numerator (imageIn l) b n < 2 ^ 40
   unfolding numerator denominator
@@ -67,6 +56,23 @@ module _ {b : ℕ} {l : List ℕ} (a : Images b l) (big : 2 ≤ b) where
             ∙ sym (part-any i v)
             ∙ ap (numerator (imageIn l) b) (sym k)
 
+-- one entry more
+pub starts-none : (σ : ℕ → ℕ) (b : ℕ) (t : List ℕ) → Starts σ b 0 t
+unfolding Starts
+starts-none σ b t r h = absurd (omega arith)
+
+pub starts-more : (σ : ℕ → ℕ) (b d : ℕ) (t : List ℕ) (v : ℕ) → Starts σ b d t → d < length t → v ≡ numerator σ b d → Starts σ b (d + 1) (set t d v)
+unfolding Starts
+starts-more σ b d t v s fits e r h =
+    ⊎-elim (λ q. getD-set-other t d r v 0 (omega arith) ∙ s r q) (λ q. here (omega arith)) (lt-or-ge r d)
+  where
+    here : r ≡ d → getD (set t d v) r 0 ≡ numerator σ b r
+    here q = rw q (getD-set-same t d v 0 fits ∙ e)
+
+-- the entries of one digit
+pub table-first : {σ : ℕ → ℕ} {b : ℕ} {t : List ℕ} → Starts σ b b t → Table σ b b t
+table-first {σ} {b} s = record { exponent = 1; is = sym (pow-one-more b 0 ∙ ap (λ (x : ℕ). x * b) (pow-zero b) ∙ one-mul b); starts = s }
+
 -- all parts
 pub table-more : {σ : ℕ → ℕ} {b size : ℕ} {t new : List ℕ} → Table σ b size t → Starts σ b (b * size) new → Table σ b (size * b) new
 table-more {σ} {b} {size} {t} {new} a s = record {
@@ -78,6 +84,17 @@ table-more {σ} {b} {size} {t} {new} a s = record {
 -- the table of one part is the table
 pub table-start : {σ : ℕ → ℕ} {b size : ℕ} {t : List ℕ} → Table σ b size t → Starts σ b (1 * size) t
 table-start {σ} {b} {size} {t} a = subst (λ (x : ℕ). Starts σ b x t) (sym (one-mul size)) (a .starts)
+
+pub first-weight : (b : ℕ) → 2 ≤ b → denominator b / b * b ≡ denominator b
+first-weight b big = weight-next b big 0 (denominator b) (ap (λ (x : ℕ). denominator b * x) (pow-zero b) ∙ mul-one (denominator b)) (omega (arith, depth-pos))
+  where
+    depth-pos : 0 < depth b
+    depth-pos = ⊎-elim (λ q. q) (λ q. absurd (omega (arith, depth-reaches b big, pow-up-to b (omega arith) q, pow-zero b))) (lt-or-ge 0 (depth b))
+
+-- the image of a digit at the last place's weight is its point
+pub first-digit : {b : ℕ} {l : List ℕ} → Images b l → 2 ≤ b → (w d : ℕ) → w * b ≡ denominator b → d < b → imageIn l d * w ≡ numerator (imageIn l) b d
+first-digit {b} {l} a big w d e h =
+    part-first a big 0 1 w d (sym (pow-zero b)) (mul-one (w * b) ∙ e) h ∙ ap (numerator (imageIn l) b) (mul-one d)
 
 -- a table has a digit to spare
 pub table-room : {σ : ℕ → ℕ} {b size : ℕ} {t : List ℕ} (a : Table σ b size t) → 2 ≤ b → size ≤ 256 → a .exponent < depth b

@@ -27,6 +27,19 @@ pub fn jump(b: u64, l: &[u64], n: u64) -> u64
     x
 }
 
+// The table of the first `b` points: the image of each digit, times the weight `w` of the last place.
+fn first_points(b: u64, l: &[u64], w: u64, t: &mut [u64])
+    requires { ⌜ (2 ≤ b) × (b ≤ 256) × (256 ≤ length (now l)) × Images b (now l) × (256 ≤ length (now t)) × (w * b ≡ denominator b) ⌝ }
+    ensures { λ r. ⌜ Table (imageIn (now (l .entry))) b b (now (t .exit)) × (length (now (t .exit)) ≡ length (now (t .entry))) ⌝ }
+{
+    let end = b as usize;
+    let mut d = 0;
+    while d < end {
+        t[d] = l[d] * w;
+        d += 1;
+    }
+}
+
 // Writes `size` entries at `at`: the first `size` ones, each with `a` added.
 fn spread(a: u64, at: usize, size: usize, t: &mut [u64])
     requires { ⌜ (a < 2 ^ 40) × (size ≤ at) × (at + size ≤ length (now t)) × ((r : ℕ) → r < size → getD (now t) r 0 < 2 ^ 40) ⌝ }
@@ -54,12 +67,12 @@ fn grow(b: u64, l: &[u64], w: u64, size: usize, t: &mut [u64])
 
 // The table of the first points of the axis: as many as the greatest power of `b` up to `limit`.
 pub fn table(b: u64, l: &[u64], limit: usize, t: &mut [u64]) -> usize
-    requires { ⌜ (2 ≤ b) × (b ≤ 256) × (256 ≤ length (now l)) × Images b (now l) × (256 ≤ length (now t)) × (limit ≤ 256) ⌝ }
+    requires { ⌜ (2 ≤ b) × (b ≤ 256) × (256 ≤ length (now l)) × Images b (now l) × (256 ≤ length (now t)) × (b ≤ limit) × (limit ≤ 256) ⌝ }
     ensures { λ r. ⌜ (r ≤ 256) × Table (imageIn (now (l .entry))) b r (now (t .exit)) ⌝ }
 {
-    t[0] = 0;
-    let mut w = numbers::denominator(b);
-    let mut size = 1;
+    let mut w = numbers::denominator(b) / b;
+    first_points(b, l, w, t);
+    let mut size = b as usize;
     while size * (b as usize) <= limit {
         w = w / b;
         grow(b, l, w, size, t);

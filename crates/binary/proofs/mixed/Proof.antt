@@ -1,12 +1,11 @@
 -- `binary::mixed` meets its contract. The loop's invariant: x with what the digits left pick from the rest of the words is the whole. Assumes nothing.
 use mathlib.Core.Path.{_≡_, refl, sym, ap, _∙_}
-use mathlib.Core.Logic.{⊎-elim}
-use Prim.Native.Nat.{_-_, _≤_}
+use Prim.Native.Nat.{_-_, _%_, _≤_}
 use native.Mathlib.Omega.{arith}
 use lib.Bits.{bitXor, xor-zero-r}
 use lib.ListN.{length, getD, drop}
 use Rattle.binary.specs.Gf2.{mix}
-use Rattle.binary.proofs.MixLaws.{mix-turn, mix-past, times-set, times-clear}
+use Rattle.binary.proofs.MixLaws.{mix-turn, mix-past, times-masked, times-at-most}
 use Rattle.binary.proofs.mixed.Statement.{statement}
 use Rattle.binary.proofs.mixed.Tie as tie
 
@@ -25,6 +24,12 @@ mul-x c = omega arith
 shared-slice-read-x : tie.Need-shared-slice-read-x Inv-loop μ-loop
 shared-slice-read-x c = omega arith
 
+mul-x-2 : tie.Need-mul-x-2 Inv-loop μ-loop
+mul-x-2 c =
+    let l = c .before .before .loop in
+    let v = getD (c .before .before .before .args .words .now) (l .j) 0 in
+    omega (arith, c .shared-slice-known .given (l .j), times-masked (l .digits) v, times-at-most (l .digits % 2) v)
+
 add-j : tie.Need-add-j Inv-loop μ-loop
 add-j c = omega arith
 
@@ -36,11 +41,8 @@ loop-again c =
     let a = c .before .before .before .args in
     let l = c .before .before .loop in (
       omega arith,
-      mix-turn (a .words .now) (l .j) (l .digits) (l .x) (c .if1 .x) (mix (a .words .now) (a .g))
-          (⊎-elim
-          (λ w. w .2 ∙ ap (bitXor (l .x)) (times-set (l .digits) (getD (a .words .now) (l .j) 0) (w .0 .taken)))
-          (λ w. w .1 ∙ sym (xor-zero-r (l .x)) ∙ ap (bitXor (l .x)) (times-clear (l .digits) (getD (a .words .now) (l .j) 0) (w .0 .left)))
-          (c .if1 .came))
+      mix-turn (a .words .now) (l .j) (l .digits) (l .x) _ (mix (a .words .now) (a .g))
+          (ap (bitXor (l .x)) (times-masked (l .digits) (getD (a .words .now) (l .j) 0)))
           (l .inv .1),
     )
 
@@ -59,6 +61,7 @@ mixed-spec =
     loop-holds
     mul-x
     shared-slice-read-x
+    mul-x-2
     add-j
     loop-less
     loop-again

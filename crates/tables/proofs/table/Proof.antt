@@ -3,13 +3,12 @@ use mathlib.Core.Path.{_≡_, refl, sym, ap, _∙_}
 use Prim.Native.Nat.{ℕ, _-_, _*_, _/_, _≤_}
 use native.Mathlib.Omega.{arith}
 use denote.Ref.{now}
-use lib.ListN.{length, length-set}
+use lib.ListN.{length}
 use Rattle.numbers.specs.Depth.{denominator}
 use Rattle.images.specs.Images.{imageIn}
 use Rattle.tables.specs.Tables.{Table}
-use Rattle.tables.proofs.TableLaws.{table-none, table-weight, table-pos}
-use native.Mathlib.Nat.{mul-le-mul, mul-le-mul-left, mul-one, mul-assoc, mul-comm}
-use lib.Seq.{getD-set-same}
+use Rattle.tables.proofs.TableLaws.{first-weight, table-weight, table-pos}
+use native.Mathlib.Nat.{mul-le-mul, mul-le-mul-left, mul-assoc, mul-comm}
 use Rattle.tables.proofs.table.Statement.{statement}
 use Rattle.tables.proofs.table.Tie as tie
 
@@ -19,42 +18,53 @@ Inv-loop b l limit t₀ w₀ size₀ t w size = (size ≤ 256) × (w * size ≡ 
 abbrev μ-loop : tie.MeasureT-loop
 μ-loop b l limit t₀ w₀ size₀ t w size = 257 - size
 
-slice-write-t : tie.Need-slice-write-t Inv-loop μ-loop
-slice-write-t c = omega arith
-
 denominator-requires : tie.Need-denominator-requires Inv-loop μ-loop
 denominator-requires c κs = omega arith
-
-loop-holds : tie.Need-loop-holds Inv-loop μ-loop
-loop-holds c =
-    let s = c .before .before .before in
-    (omega arith, mul-one _ ∙ c .denominator .ensures, table-none (s .pre .3) (omega arith) _ (getD-set-same (now (s .args .t)) 0 0 0 (omega arith)), refl)
-
-mul-loop : tie.Need-mul-loop Inv-loop μ-loop
-mul-loop c = omega (arith, mul-le-mul {n₁ = c .loop .size} {m₁ = c .before .before .before .before .args .b} {n₂ = 256} {m₂ = 256} (omega arith) (omega arith))
 
 div-w : tie.Need-div-w Inv-loop μ-loop
 div-w c = omega arith
 
+-- the weight of the last place
+last : (c : tie.After-denominator Inv-loop μ-loop) →
+    let b = c .before .before .before .args .b in
+    c .denominator .result / b * b ≡ denominator b
+last c = rw (c .denominator .ensures) (first-weight (c .before .before .before .args .b) (omega arith))
+
+first-points-requires : tie.Need-first-points-requires Inv-loop μ-loop
+first-points-requires c κs =
+    let s = c .before .before .before .before in
+    (omega arith, omega arith, omega arith, s .pre .3, omega arith, last (c .before))
+
+loop-holds : tie.Need-loop-holds Inv-loop μ-loop
+loop-holds c =
+    let e = c .before .before .first-points .ensures in
+    (omega arith, last (c .before .before .before .before), e .0, refl)
+
+mul-loop : tie.Need-mul-loop Inv-loop μ-loop
+mul-loop c = omega (arith, mul-le-mul {n₁ = c .loop .size} {m₁ = c .before .before .before .before .before .before .before .before .args .b} {n₂ = 256} {m₂ = 256} (omega arith) (omega arith))
+
+div-w-2 : tie.Need-div-w-2 Inv-loop μ-loop
+div-w-2 c = omega arith
+
 grow-requires : tie.Need-grow-requires Inv-loop μ-loop
 grow-requires c κs =
-    let s = c .before .before .before .before .before .before in
-    let a = s .args in
+    let s = c .before .before .before .before .before .before .before .before .before .before in
     let l = c .before .before .loop in
-    ((omega arith, omega arith, omega arith, s .pre .3), (omega arith, omega (arith, length-set (now (a .t)) 0 0), ap (λ (y : ℕ). y * l .size) (table-weight (l .inv .2) (omega arith) (omega arith) (l .inv .1)) ∙ l .inv .1, l .inv .2))
+    let first = c .before .before .before .before .before .first-points .ensures in
+    ((omega arith, omega arith, omega arith, s .pre .3), (omega arith, omega (arith, first .1), ap (λ (y : ℕ). y * l .size) (table-weight (l .inv .2) (omega arith) (omega arith) (l .inv .1)) ∙ l .inv .1, l .inv .2))
 
 mul-size : tie.Need-mul-size Inv-loop μ-loop
 mul-size c = omega arith
 
 loop-less : tie.Need-loop-less Inv-loop μ-loop
 loop-less c =
-    let a = c .before .before .before .before .before .before .before .before .before .args in
+    let a = c .before .before .before .before .before .before .before .before .before .before .before .before .before .args in
     let l = c .before .before .before .before .before .loop in
     omega (arith, table-pos (l .inv .2) (omega arith), mul-le-mul-left {m = 2} {n = a .b} (l .size) (omega arith))
 
 loop-again : tie.Need-loop-again Inv-loop μ-loop
 loop-again c =
-    let a = c .before .before .before .before .before .before .before .before .before .args in
+    let a = c .before .before .before .before .before .before .before .before .before .before .before .before .before .args in
     let l = c .before .before .before .before .before .loop in
     let e = c .before .before .grow .ensures in (
       omega arith,
@@ -64,7 +74,7 @@ loop-again c =
     )
 
 same-length : tie.Need-same-length Inv-loop μ-loop
-same-length c = c .before .loop .inv .3 ∙ length-set (now (c .before .before .before .before .before .args .t)) 0 0
+same-length c = c .before .loop .inv .3 ∙ c .before .before .before .before .first-points .ensures .1
 
 returns : tie.Need-returns Inv-loop μ-loop
 returns c = (omega arith, c .before .loop .inv .2)
@@ -75,11 +85,12 @@ table-spec =
     (tie.spec
     Inv-loop
     μ-loop
-    slice-write-t
     denominator-requires
+    div-w
+    first-points-requires
     loop-holds
     mul-loop
-    div-w
+    div-w-2
     grow-requires
     mul-size
     loop-less

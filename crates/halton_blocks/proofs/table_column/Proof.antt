@@ -1,4 +1,4 @@
--- `halton_blocks::halton_column` meets its contract: its parts one after the other. Assumes nothing.
+-- `halton_blocks::table_column` meets its contract: its parts one after the other. Assumes nothing.
 use mathlib.Core.Path.{_≡_}
 use mathlib.Core.List.{List}
 use Prim.Native.Nat.{ℕ, _+_, _≤_}
@@ -14,8 +14,8 @@ use Rattle.halton.specs.Axis.{numerator}
 use Rattle.tables.specs.Tables.{tabled}
 use Rattle.tables.proofs.TableLaws.{images-of}
 use borrow.Author.Needs.{needs}
-use Rattle.halton_blocks.proofs.halton_column.Statement.{statement}
-use Rattle.halton_blocks.proofs.halton_column.Tie as tie
+use Rattle.halton_blocks.proofs.table_column.Statement.{statement}
+use Rattle.halton_blocks.proofs.table_column.Tie as tie
 
 -- the axis by its images
 tabled-is : (family b n : ℕ) (l : List ℕ) → Imaged (imageOf family b) b l → 2 ≤ b → (i : ℕ) → tabled l b n i ≡ haltonFrom family b n i
@@ -43,7 +43,7 @@ slice-aggregate-table-2 c = search needs
 table-requires : tie.Need-table-requires
 table-requires c κs =
     let a = c .before .before .before .before .before .before .before .args in
-    (search needs, search needs, search needs, images-of (c .before .before .before .before .images .ensures) (image-permutes (a .family) (a .b) (omega arith)) (omega arith), search needs, c .before .before .table-limit .ensures)
+    (search needs, search needs, search needs, images-of (c .before .before .before .before .images .ensures) (image-permutes (a .family) (a .b) (omega arith)) (omega arith), search needs, c .before .before .table-limit .ensures .0, c .before .before .table-limit .ensures .1)
 
 slice-aggregate-fill-tiles : tie.Need-slice-aggregate-fill-tiles
 slice-aggregate-fill-tiles c = search needs
@@ -65,8 +65,8 @@ returns c =
     let a = c .before .before .before .before .before .before .before .before .before .before .before .before .before .before .before .args in
     column-as (c .before .before .fill-tiles .ensures) (haltonFrom (a .family) (a .b) (a .n)) (λ k h q. tabled-is (a .family) (a .b) (a .n) _ (c .before .before .before .before .before .before .before .before .before .before .before .before .images .ensures) (omega arith) k)
 
-pub halton-column-spec : {M : Type 1} → statement M
-halton-column-spec =
+pub table-column-spec : {M : Type 1} → statement M
+table-column-spec =
     tie.close
     (tie.spec
     slice-aggregate-images
