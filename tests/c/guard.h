@@ -1,5 +1,5 @@
-// Checks, and the calls of hisowake.h with guarded buffers: each is called with buffers that start right after a page that cannot be touched, and
-// with buffers that end at one.
+// Checks, and the calls of hisowake.h with guarded buffers: each is called with buffers that start right after a page that cannot be touched,
+// and with buffers that end at one.
 #ifndef GUARD_H
 #define GUARD_H
 

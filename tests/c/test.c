@@ -252,7 +252,10 @@ static void reference_itself(void) {
         int plan;
         const uint8_t *bytes;
         size_t len;
-    } known[] = {{0, HALTON_6, sizeof HALTON_6}, {2, PERMUTED_6, sizeof PERMUTED_6}, {5, SOBOL_6, sizeof SOBOL_6}, {6, LONGEST, sizeof LONGEST}};
+    } known[] = {{0, HALTON_6, sizeof HALTON_6},
+                 {2, PERMUTED_6, sizeof PERMUTED_6},
+                 {5, SOBOL_6, sizeof SOBOL_6},
+                 {6, LONGEST, sizeof LONGEST}};
     for (int i = 0; i < 4; i++) {
         uint8_t bytes[PLAN_MAX] = {0};
         check(plan_bytes(&plans[known[i].plan], bytes) == known[i].len && memcmp(bytes, known[i].bytes, known[i].len) == 0, "plan bytes", 0);
@@ -275,8 +278,8 @@ static void compare_point(const struct plan *p, const uint8_t *plan, size_t plan
 static void compare_count(const struct plan *p, const uint8_t *plan, size_t plan_len, uint64_t start, uint64_t n, const struct cut *cut) {
     uint8_t window[48];
     size_t window_len = window_bytes(cut, p->axes, window);
-    count("a count of the reference", plan, plan_len, start, n, window, window_len, 16 + random_below(2) * 24, 0, inside_count(p, start, n, cut),
-          bound_of(p, n));
+    count("a count of the reference", plan, plan_len, start, n, window, window_len, 16 + random_below(2) * 24, 0,
+          inside_count(p, start, n, cut), bound_of(p, n));
 }
 
 // Points of all sizes of index, and counts of runs in one part of 1,024 points and in some, from near 0, from the midst and up to the end.

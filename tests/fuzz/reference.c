@@ -87,19 +87,28 @@ static uint64_t read_base(struct bits *b, struct plan *p, int i) {
     return 0;
 }
 
-// The least e above 0 for which the polynomial divides x^e - 1 is 2^d - 1: every e is tried in turn, x^e reduced.
-int is_primitive(const struct axis *x) {
-    uint64_t polynomial = 1, top = 1ull << x->degree, power = 1, e = 0;
-    for (int j = 1; j < x->degree; j++)
-        polynomial = 2 * polynomial + x->a[j - 1];
-    polynomial = 2 * polynomial + 1;
+// The least e above 0 for which the polynomial divides x^e - 1: every e is tried in turn, x^e reduced.
+static uint64_t order(uint64_t polynomial, uint64_t top) {
+    uint64_t power = 1, e = 0;
     do {
         power *= 2;
         if (power >= top)
             power ^= polynomial;
         e++;
     } while (power != 1);
-    return e == top - 1;
+    return e;
+}
+
+// Each polynomial's order is kept once it is known; 0 is none.
+int is_primitive(const struct axis *x) {
+    static uint64_t orders[2 << DEGREE_MAX];
+    uint64_t polynomial = 1, top = 1ull << x->degree;
+    for (int j = 1; j < x->degree; j++)
+        polynomial = 2 * polynomial + x->a[j - 1];
+    polynomial = 2 * polynomial + 1;
+    if (orders[polynomial] == 0)
+        orders[polynomial] = order(polynomial, top);
+    return orders[polynomial] == top - 1;
 }
 
 int same_polynomial(const struct axis *x, const struct axis *y) {
@@ -320,16 +329,15 @@ static uint64_t read_window(const uint8_t *window, size_t len, int axes, struct 
 // ---- the calls
 
 struct answer reference_point(const uint8_t *plan, size_t plan_len, uint64_t index, size_t out_len) {
-    struct plan p;
     struct answer r = {0};
-    r.code = read_plan(plan, plan_len, &p);
+    r.code = read_plan(plan, plan_len, &r.plan);
     if (!r.code && index >= INDEXES)
         r.code = HISOWAKE_OUT_OF_RANGE;
-    if (!r.code && out_len < 8 * (size_t)p.axes)
+    if (!r.code && out_len < 8 * (size_t)r.plan.axes)
         r.code = HISOWAKE_BUFFER_TOO_SMALL;
     if (!r.code) {
-        r.words = p.axes;
-        point_of(&p, index, r.word);
+        r.words = r.plan.axes;
+        point_of(&r.plan, index, r.word);
     }
     return r;
 }
@@ -348,14 +356,13 @@ uint64_t count_code(const uint8_t *plan, size_t plan_len, uint64_t start, uint64
 
 struct answer reference_count(const uint8_t *plan, size_t plan_len, uint64_t start, uint64_t count, const uint8_t *window, size_t window_len,
                               size_t out_len) {
-    struct plan p;
     struct cut cut[AXES_MAX];
     struct answer r = {0};
-    r.code = count_code(plan, plan_len, start, count, window, window_len, out_len, &p, cut);
+    r.code = count_code(plan, plan_len, start, count, window, window_len, out_len, &r.plan, cut);
     if (!r.code) {
         r.words = 2;
-        r.word[0] = inside_count(&p, start, count, cut);
-        r.word[1] = bound_of(&p, count);
+        r.word[0] = inside_count(&r.plan, start, count, cut);
+        r.word[1] = bound_of(&r.plan, count);
     }
     return r;
 }

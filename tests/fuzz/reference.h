@@ -62,11 +62,12 @@ uint64_t bound_of(const struct plan *p, uint64_t count);
 
 // ---- the calls
 
-// A call's answer: its code, and the words that it writes, none if it is refused.
+// A call's answer: its code, the words that it writes, none if it is refused, and the plan as far as it is read.
 struct answer {
     uint64_t code;
     int words;
     uint64_t word[AXES_MAX];
+    struct plan plan;
 };
 
 struct answer reference_point(const uint8_t *plan, size_t plan_len, uint64_t index, size_t out_len);
