@@ -1,7 +1,7 @@
 //! Exact low-discrepancy points of a plan, and how many of them are inside a window: safe Rust over the two C calls of `libhisowake.a`.
 //!
-//! A [`Plan`] is read once from its bytes. It gives the [`Point`] of any index, and counts the points of a run inside a window of [`Cut`]s. A
-//! call that is turned down answers a [`Refusal`]. Nothing allocates.
+//! A [`Plan`] is made of bytes that are a plan's. It gives the [`Point`] of any index, and counts the points of a run inside a window of
+//! [`Cut`]s. A call that is turned down answers a [`Refusal`]. Nothing allocates.
 //!
 //! ```
 //! use hisowake::{Cut, Plan, Refusal};

@@ -1,4 +1,4 @@
-//! The typed calls: a plan read once, its points and counts, and every refusal by its name.
+//! The typed calls: what a plan says of itself, its points and counts, and refusals by name.
 use hisowake::{calls, Count, Cut, Family, Plan, Refusal, AXES_MAX, PLAN_MAX};
 
 const END: u64 = 4294967296;
