@@ -1,6 +1,6 @@
 /*
- * A street collector's main loop: one point an index, which says when to wake and which meter to call on which channel. It has no heap and
- * keeps nothing but the index.
+ * A street collector's main loop: one point an index, which says when to wake and which meter to call on which channel. The loop takes nothing
+ * from the heap and keeps nothing but the index.
  *
  *   collector START COUNT
  */
@@ -63,8 +63,8 @@ int main(int argc, char **argv) {
             return 1;
         }
         slots_of(point, slots);
-        printf("index %llu: sleep until second %llu, call meter %llu on channel %llu\n", (unsigned long long)index, (unsigned long long)slots[0],
-               (unsigned long long)slots[1], (unsigned long long)slots[2]);
+        printf("index %llu: sleep until second %llu, call meter %llu on channel %llu\n", (unsigned long long)index,
+               (unsigned long long)slots[0], (unsigned long long)slots[1], (unsigned long long)slots[2]);
     }
     return 0;
 }

@@ -170,8 +170,8 @@ impl Plan {
         (self.bytes[0] >> 3 & 7).into()
     }
 
-    /// The denominator of an axis, the first axis being 0: 2^32 for Sobol, else the least power of the base that is 2^32 or more. None where the
-    /// plan has no such axis.
+    /// The denominator of an axis, the first axis being 0: 2^32 for Sobol, else the least power of the base that is 2^32 or more. None where
+    /// the plan has no such axis.
     ///
     /// ```
     /// use hisowake::{Plan, Refusal};
@@ -218,8 +218,8 @@ impl Plan {
         Ok(point)
     }
 
-    /// How many points of the indexes start to start + count - 1 are inside the window, which has a cut for each axis. Refuses, in this order: 11
-    /// if start + count is above 2^32; 14.
+    /// How many points of the indexes start to start + count - 1 are inside the window, which has a cut for each axis. Refuses, in this order:
+    /// 11 if start + count is above 2^32; 14.
     ///
     /// ```
     /// use hisowake::{Cut, Plan, Refusal};

@@ -15,8 +15,9 @@ struct buffer {
     size_t size, at, len;
 };
 
-// where in its page the lent part is
+// Where in its page the lent part is. Each side has guard bytes of its own, so that no byte written can pass for both.
 enum side { AT_FRONT, AT_END };
+static const uint8_t GUARD[] = {0xA5, 0x5A};
 
 static struct buffer new_buffer(void) {
     size_t size = (size_t)sysconf(_SC_PAGESIZE);
@@ -29,10 +30,10 @@ static struct buffer new_buffer(void) {
 }
 
 // Lends `len` bytes, as given or else guard bytes; all other bytes of the page are guard bytes. Length 0 at the front is a null pointer.
-static uint8_t *lend(struct buffer *b, enum side side, uint8_t guard, const uint8_t *bytes, size_t len) {
+static uint8_t *lend(struct buffer *b, enum side side, const uint8_t *bytes, size_t len) {
     b->at = side == AT_END ? b->size - len : 0;
     b->len = len;
-    memset(b->expected, guard, b->size);
+    memset(b->expected, GUARD[side], b->size);
     if (bytes && len)
         memcpy(b->expected + b->at, bytes, len);
     memcpy(b->page, b->expected, b->size);

@@ -10,9 +10,6 @@ int LLVMFuzzerTestOneInput(const uint8_t *data, size_t size);
 // the most points that a count walks
 enum { WALK_MAX = 2000 };
 
-// one for each side
-static const uint8_t GUARD[] = {0xA5, 0x5A};
-
 static struct buffer plan_buffer, window_buffer, out_buffer;
 
 int LLVMFuzzerInitialize(int *argc, char ***argv) {
@@ -50,9 +47,9 @@ static void fail(const struct input *in, const struct answer *want, uint64_t cod
 }
 
 static void compare(const struct input *in, const struct answer *want, enum side side) {
-    const uint8_t *plan = lend(&plan_buffer, side, GUARD[side], in->plan, in->plan_len);
-    const uint8_t *window = lend(&window_buffer, side, GUARD[side], in->window, in->window_len);
-    uint8_t *out = lend(&out_buffer, side, GUARD[side], NULL, in->out_len);
+    const uint8_t *plan = lend(&plan_buffer, side, in->plan, in->plan_len);
+    const uint8_t *window = lend(&window_buffer, side, in->window, in->window_len);
+    uint8_t *out = lend(&out_buffer, side, NULL, in->out_len);
     uint64_t code;
     if (in->call == POINT)
         code = hisowake_point(plan, in->plan_len, in->start, out, in->out_len);

@@ -1,22 +1,11 @@
 // How the fuzzer changes an input: by whole plans, windows and numbers, right ones and slightly wrong ones, beside plain bytes.
+#include "../c/random.h"
 #include "input.h"
 
 #include <string.h>
 
 size_t LLVMFuzzerMutate(uint8_t *data, size_t size, size_t max_size);
 size_t LLVMFuzzerCustomMutator(uint8_t *data, size_t size, size_t max_size, unsigned seed);
-
-static uint64_t random_state;
-
-// splitmix64
-static uint64_t random_word(void) {
-    uint64_t x = random_state += 0x9E3779B97F4A7C15u;
-    x = (x ^ x >> 30) * 0xBF58476D1CE4E5B9u;
-    x = (x ^ x >> 27) * 0x94D049BB133111EBu;
-    return x ^ x >> 31;
-}
-
-static uint64_t below(uint64_t n) { return random_word() % n; }
 
 // ---- numbers
 
