@@ -49,18 +49,9 @@ static struct axis random_polynomial(void) {
 
 // Whether an axis may stand behind those before it.
 static int fits(const struct plan *p, int i) {
-    for (int j = 0; j < i; j++) {
-        uint64_t a = p->axis[i].base, b = p->axis[j].base;
-        if (p->family == SOBOL && same_polynomial(&p->axis[i], &p->axis[j]))
+    for (int j = 0; j < i; j++)
+        if (p->family == SOBOL ? same_polynomial(&p->axis[i], &p->axis[j]) : common_divisor(p->axis[i].base, p->axis[j].base) != 1)
             return 0;
-        while (p->family != SOBOL && b != 0) {
-            uint64_t r = a % b;
-            a = b;
-            b = r;
-        }
-        if (p->family != SOBOL && a != 1)
-            return 0;
-    }
     return 1;
 }
 

@@ -67,7 +67,7 @@ static uint64_t take(struct bits *b, int width, uint64_t *field) {
 
 // ---- reading
 
-static uint64_t common_divisor(uint64_t a, uint64_t b) {
+uint64_t common_divisor(uint64_t a, uint64_t b) {
     uint64_t d = a < b ? a : b;
     while (a % d != 0 || b % d != 0)
         d--;

@@ -38,6 +38,9 @@ size_t window_bytes(const struct cut *cut, int axes, uint8_t *bytes);
 // Reads a plan and completes it: 0, or a refusal from 1 to 10.
 uint64_t read_plan(const uint8_t *bytes, size_t len, struct plan *p);
 
+// The greatest common divisor of two numbers from 1 up.
+uint64_t common_divisor(uint64_t a, uint64_t b);
+
 // Whether the polynomial of a Sobol axis of degree 1 or more is primitive.
 int is_primitive(const struct axis *x);
 
