@@ -1,12 +1,13 @@
 // The calls of hisowake.h from C: reference points and counts, refusals and their order, that nothing beyond a buffer is read or written, and
-// the stack. Larger runs are compared with reference.h.
+// the stack. Larger runs are compared with the reference. The argument `valgrind` leaves out the stack and makes the longest runs shorter.
 #define _DEFAULT_SOURCE
 #include "guard.h"
-#include "reference.h"
+#include "plans.h"
+#include "random.h"
 
 #include <ucontext.h>
 
-enum { PLAN_MAX = 71, OUT_MAX = 64, STACK = 65536, POINT_STACK = 8192, COUNT_STACK = 24576, SEED = 20260517 };
+enum { OUT_MAX = 64, STACK = 65536, POINT_STACK = 8192, COUNT_STACK = 24576, PAINT = 0xA5, SEED = 20260517 };
 
 #define BYTES(...) (const uint8_t[]){__VA_ARGS__}, sizeof((const uint8_t[]){__VA_ARGS__})
 #define NUMERATORS(...) sizeof((const uint64_t[]){__VA_ARGS__}) / 8, (const uint64_t[]){__VA_ARGS__}
@@ -17,6 +18,8 @@ enum { PLAN_MAX = 71, OUT_MAX = 64, STACK = 65536, POINT_STACK = 8192, COUNT_STA
 #define CUT(u, q) FOUR(u), FOUR(q)
 
 static const uint64_t LAST = 4294967295u, END = 4294967296u;
+
+static int for_valgrind;
 
 // ---- points
 
@@ -93,9 +96,10 @@ static void multiples(void) {
         count("permuted base 5", BYTES(0x48, 0x20), 0, 125, BYTES(CUT(k, 125)), 16, 0, k, 17);
         count("x^3 + x + 1", R5, 0, 128, BYTES(CUT(k, 128)), 16, 0, k, 0);
     }
-    for (uint32_t k = 1; k <= 1048576; k *= 2) {
-        count("base 2", BYTES(0x08, 0x08), 0, 1048576, BYTES(CUT(k, 1048576)), 16, 0, k, 22);
-        count("x^3 + x + 1", R5, 0, 1048576, BYTES(CUT(k, 1048576)), 16, 0, k, 0);
+    uint32_t n = for_valgrind ? 4096 : 1048576;
+    for (uint32_t k = 1; k <= n; k *= 2) {
+        count("base 2", BYTES(0x08, 0x08), 0, n, BYTES(CUT(k, n)), 16, 0, k, for_valgrind ? 14 : 22);
+        count("x^3 + x + 1", R5, 0, n, BYTES(CUT(k, n)), 16, 0, k, 0);
     }
 }
 
@@ -222,27 +226,17 @@ static void refused_windows(void) {
 
 // ---- the reference
 
-static uint64_t random_state = SEED;
-
-// A number below `below`: splitmix64.
-static uint64_t random_below(uint64_t below) {
-    uint64_t x = random_state += 0x9E3779B97F4A7C15u;
-    x = (x ^ x >> 30) * 0xBF58476D1CE4E5B9u;
-    x = (x ^ x >> 27) * 0x94D049BB133111EBu;
-    return (x ^ x >> 31) % below;
-}
-
 // Cuts of all sizes of q, every other q a power of the base, so that points sit on cuts; the cuts of every other window are near 1, so that
 // many points are inside.
 static void random_cuts(const struct plan *p, struct cut *cut) {
-    int wide = (int)random_below(2);
+    int wide = (int)below(2);
     for (int i = 0; i < p->axes; i++) {
-        uint64_t q = 1 + random_below(1u << (1 + random_below(24))), b = p->family == SOBOL ? 2 : p->axis[i].base;
-        if (random_below(2))
-            for (q = b; q * b <= 16777216 && random_below(3); q *= b)
+        uint64_t q = 1 + below(1u << (1 + below(24))), b = p->family == SOBOL ? 2 : p->axis[i].base;
+        if (below(2))
+            for (q = b; q * b <= 16777216 && below(3); q *= b)
                 ;
         cut[i].q = (uint32_t)q;
-        cut[i].u = (uint32_t)(wide ? q - random_below(q / 4 + 1) : random_below(q + 1));
+        cut[i].u = (uint32_t)(wide ? q - below(q / 4 + 1) : below(q + 1));
     }
 }
 
@@ -252,7 +246,10 @@ static void reference_itself(void) {
         int plan;
         const uint8_t *bytes;
         size_t len;
-    } known[] = {{0, HALTON_6, sizeof HALTON_6}, {2, PERMUTED_6, sizeof PERMUTED_6}, {5, SOBOL_6, sizeof SOBOL_6}, {6, LONGEST, sizeof LONGEST}};
+    } known[] = {{0, HALTON_6, sizeof HALTON_6},
+                 {2, PERMUTED_6, sizeof PERMUTED_6},
+                 {5, SOBOL_6, sizeof SOBOL_6},
+                 {6, LONGEST, sizeof LONGEST}};
     for (int i = 0; i < 4; i++) {
         uint8_t bytes[PLAN_MAX] = {0};
         check(plan_bytes(&plans[known[i].plan], bytes) == known[i].len && memcmp(bytes, known[i].bytes, known[i].len) == 0, "plan bytes", 0);
@@ -275,8 +272,8 @@ static void compare_point(const struct plan *p, const uint8_t *plan, size_t plan
 static void compare_count(const struct plan *p, const uint8_t *plan, size_t plan_len, uint64_t start, uint64_t n, const struct cut *cut) {
     uint8_t window[48];
     size_t window_len = window_bytes(cut, p->axes, window);
-    count("a count of the reference", plan, plan_len, start, n, window, window_len, 16 + random_below(2) * 24, 0, inside_count(p, start, n, cut),
-          bound_of(p, n));
+    count("a count of the reference", plan, plan_len, start, n, window, window_len, 16 + below(2) * 24, 0,
+          inside_count(p, start, n, cut), bound_of(p, n));
 }
 
 // Points of all sizes of index, and counts of runs in one part of 1,024 points and in some, from near 0, from the midst and up to the end.
@@ -285,13 +282,13 @@ static void compare(const struct plan *p) {
     uint8_t plan[PLAN_MAX] = {0};
     size_t plan_len = plan_bytes(p, plan);
     for (int i = 0; i < 100; i++) {
-        compare_point(p, plan, plan_len, random_below(1ull << (1 + random_below(32))));
-        compare_point(p, plan, plan_len, LAST - random_below(1000));
+        compare_point(p, plan, plan_len, below(1ull << (1 + below(32))));
+        compare_point(p, plan, plan_len, LAST - below(1000));
     }
     for (size_t i = 0; i < sizeof sizes / sizeof sizes[0]; i++) {
         uint64_t n = sizes[i];
         struct cut cut[6], all[6];
-        const uint64_t start[] = {0, random_below(5000), 16777216 + random_below(4261412864u), END - n};
+        const uint64_t start[] = {0, below(5000), 16777216 + below(4261412864u), END - n};
         for (int j = 0; j < 4; j++) {
             random_cuts(p, cut);
             compare_count(p, plan, plan_len, start[j], n, cut);
@@ -299,10 +296,10 @@ static void compare(const struct plan *p) {
         // u = q on every axis counts all, u = 0 on one axis none
         uint8_t window[48];
         for (int k = 0; k < p->axes; k++)
-            all[k].u = all[k].q = 1 + (uint32_t)random_below(16777216);
+            all[k].u = all[k].q = 1 + (uint32_t)below(16777216);
         size_t window_len = window_bytes(all, p->axes, window);
         count("u = q", plan, plan_len, start[i % 4], n, window, window_len, 16, 0, n, bound_of(p, n));
-        all[random_below((uint64_t)p->axes)].u = 0;
+        all[below((uint64_t)p->axes)].u = 0;
         window_bytes(all, p->axes, window);
         count("u = 0", plan, plan_len, start[i % 4], n, window, window_len, 16, 0, 0, bound_of(p, n));
     }
@@ -323,17 +320,17 @@ static void count_on_stack(void) {
 // Runs a call on a stack of this size, whose deepest 256 bytes and all below have to stay as they were. Gives how many bytes it took.
 static size_t stack_of(void (*call)(void), size_t size) {
     uint8_t *deepest = stack + STACK - size;
-    memset(stack, FILL, STACK);
+    memset(stack, PAINT, STACK);
     getcontext(&there);
     there.uc_stack.ss_sp = deepest;
     there.uc_stack.ss_size = size;
     there.uc_link = &back;
     makecontext(&there, call, 0);
     swapcontext(&back, &there);
-    check(all_fill(stack, deepest + 256), "stack", size);
     size_t kept = 0;
-    while (kept < STACK && stack[kept] == FILL)
+    while (kept < STACK && stack[kept] == PAINT)
         kept++;
+    check(kept >= STACK - size + 256, "stack", size);
     return STACK - kept;
 }
 
@@ -353,13 +350,15 @@ static void stacks(void) {
     printf("C: stack: the point %zu bytes, the count %zu bytes\n", point_most, count_most);
 }
 
-int main(void) {
+int main(int argc, char **argv) {
     setvbuf(stdout, NULL, _IOLBF, 0);
+    random_state = SEED;
+    for_valgrind = argc > 1 && strcmp(argv[1], "valgrind") == 0;
     plan_buffer = new_buffer();
     window_buffer = new_buffer();
     out_buffer = new_buffer();
     for (int i = 0; i < PLANS; i++)
-        direction_numbers(&plans[i]);
+        complete(&plans[i]);
 
     reference_points();
     six_axes();
@@ -376,7 +375,8 @@ int main(void) {
             struct plan p = last_axes(&plans[i], axes);
             compare(&p);
         }
-    stacks();
+    if (!for_valgrind)
+        stacks();
 
     printf("C: %d checks, %d failed; seed %d\n", checks, failures, SEED);
     return failures != 0;
