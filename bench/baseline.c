@@ -187,3 +187,14 @@ void baseline_jump(const jumper_t *j, uint64_t index, uint64_t *out) {
         out[a] = x;
     }
 }
+
+uint64_t baseline_axis_jump(int family, unsigned b, uint64_t reciprocal, uint64_t index) {
+    uint64_t x = 0;
+    for (uint64_t n = index, p = 1; p < 4294967296u; p *= b) {
+        uint64_t q = (uint64_t)((unsigned __int128)n * reciprocal >> 64);
+        unsigned digit = (unsigned)(n - q * b);
+        x = x * b + (family == 1 ? faure_image(b, digit) : digit);
+        n = q;
+    }
+    return x;
+}

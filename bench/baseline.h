@@ -28,5 +28,7 @@ typedef struct {
     uint8_t image[6][256];
 } jumper_t;
 void baseline_prepare(const plan_t *p, jumper_t *j);
+/* The numerator of an index in base b, by the reciprocal of b, made beforehand; each digit's image by the rule. */
+uint64_t baseline_axis_jump(int family, unsigned b, uint64_t reciprocal, uint64_t index);
 void baseline_jump(const jumper_t *j, uint64_t index, uint64_t *out);
 #endif

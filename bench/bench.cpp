@@ -20,6 +20,7 @@ extern "C" {
 // the calls on a state, in loops (crate bench_calls); a slice is a pointer and a length
 uint64_t bench_blocks(const uint8_t *plan, size_t plan_len, uint64_t start, uint64_t rounds, uint64_t *out, size_t out_len);
 uint64_t bench_jumps(const uint8_t *plan, size_t plan_len, uint64_t first, uint64_t rounds, uint64_t *out, size_t out_len);
+uint64_t bench_axis_jumps(uint64_t family, uint64_t base, uint64_t first, uint64_t rounds);
 uint64_t bench_steps(const uint8_t *plan, size_t plan_len, uint64_t start, uint64_t rounds, uint64_t *out, size_t out_len);
 uint64_t bench_counts(const uint8_t *plan, size_t plan_len, uint64_t start, uint64_t count, const uint64_t *window, size_t window_len,
                       uint64_t rounds);
@@ -217,6 +218,22 @@ static void counts(const std::vector<Case> &all) {
     }
 }
 
+static void axis_jumps() {
+    printf("\n## A jump on one Halton axis, no state: ns\n\n| axis | ours | C with the reciprocal stored |\n|---|---|---|\n");
+    for (int family : {0, 1})
+        for (unsigned b : {2u, 3u, 13u, 241u, 256u}) {
+            uint64_t ours_sum = 0, plain_sum = 0, reciprocal = UINT64_MAX / b + 1, first = 123456789;
+            double ours = least(9, [&] { ours_sum = bench_axis_jumps((uint64_t)family, b, first, 10000); }) / 10000;
+            double plain = least(9, [&] {
+                plain_sum = 0;
+                for (uint64_t i = 0; i < 10000; i++)
+                    plain_sum ^= baseline_axis_jump(family, b, reciprocal, first ^ i);
+            }) / 10000;
+            check(ours_sum == plain_sum, "a jump in base " + std::to_string(b));
+            line((family ? "permuted " : "Halton ") + std::to_string(b), ours, "ns", {{"C", plain}});
+        }
+}
+
 static void calls(const std::vector<Case> &all) {
     printf("\n## One call: ns\n\n| plan | jump | step | C point | C jump with tables and reciprocals made beforehand |\n|---|---|---|---|---|\n");
     for (const Case &c : all) {
@@ -239,5 +256,6 @@ int main() {
     blocks(all);
     small_blocks(all);
     counts(all);
+    axis_jumps();
     calls(all);
 }

@@ -38,6 +38,25 @@ pub extern "C" fn bench_jumps(plan: &[u8], first: u64, rounds: u64, out: &mut [u
     code
 }
 
+// Jumps to `rounds` indexes on one Halton axis, with no state and no test. Answers the numerators' exclusive or.
+#[no_mangle]
+pub extern "C" fn bench_axis_jumps(family: u64, b: u64, first: u64, rounds: u64) -> u64 {
+    if b < 2 {
+        return 0;
+    }
+    if 256 < b {
+        return 0;
+    }
+    let mut x = 0;
+    let mut i = 0;
+    while i < rounds {
+        let r = halton::jump(family, b, (first ^ i) % 4294967296);
+        x = x ^ r.numerator;
+        i += 1;
+    }
+    x
+}
+
 // Takes `rounds` steps of a run. Answers the last refusal's number or 0.
 #[no_mangle]
 pub extern "C" fn bench_steps(plan: &[u8], start: u64, rounds: u64, out: &mut [u64]) -> u64 {
