@@ -3,9 +3,9 @@ use mathlib.Core.Logic.{⊎-elim}
 use Prim.Native.Nat.{_-_, _≤_, _<_}
 use native.Mathlib.Omega.{arith}
 use lib.ListN.{getD}
-use Rattle.genuine.proofs.SpellableLaws.{not-so, so, degree-low-iff, SpellableTo, none-spellable, one-more-spellable}
-use Rattle.genuine.proofs.is_spellable.Statement.{statement}
-use Rattle.genuine.proofs.is_spellable.Tie as tie
+use Rattle.spellable.proofs.SpellableLaws.{not-so, so, degree-low-iff, SpellableTo, none-spellable, one-more-spellable}
+use Rattle.spellable.proofs.is_spellable.Statement.{statement}
+use Rattle.spellable.proofs.is_spellable.Tie as tie
 
 abbrev Inv-loop : tie.InvT-loop
 Inv-loop family axes bases polynomials i₀ i = (i ≤ axes) × SpellableTo family bases polynomials i

@@ -5,9 +5,9 @@ use Prim.Native.Nat.{ℕ, _-_, _≤_, _<_}
 use native.Mathlib.Omega.{arith}
 use borrow.Author.Count.{below-more}
 use lib.ListN.{length, getD}
-use Rattle.genuine.proofs.WordLaws.{words-differ, words-agree}
-use Rattle.genuine.proofs.same_words.Statement.{statement}
-use Rattle.genuine.proofs.same_words.Tie as tie
+use Rattle.comparison.proofs.WordLaws.{words-differ, words-agree}
+use Rattle.comparison.proofs.same_words.Statement.{statement}
+use Rattle.comparison.proofs.same_words.Tie as tie
 
 abbrev Inv-loop : tie.InvT-loop
 Inv-loop a b i₀ i = (i ≤ length a) × (length a ≡ length b) × ((j : ℕ) → j < i → getD a j 0 ≡ getD b j 0)

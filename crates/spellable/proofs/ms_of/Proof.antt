@@ -5,9 +5,9 @@ use native.Mathlib.Omega.{arith}
 use Rattle.numbers.specs.Listed.{listed, padded}
 use Rattle.numbers.proofs.ListedLaws.{listed-store}
 use Rattle.state.specs.State.{mAt}
-use Rattle.genuine.proofs.SpellableLaws.{ms-full}
-use Rattle.genuine.proofs.ms_of.Statement.{statement}
-use Rattle.genuine.proofs.ms_of.Tie as tie
+use Rattle.spellable.proofs.SpellableLaws.{ms-full}
+use Rattle.spellable.proofs.ms_of.Statement.{statement}
+use Rattle.spellable.proofs.ms_of.Tie as tie
 
 abbrev Inv-loop : tie.InvT-loop
 Inv-loop directions ms₀ k₀ ms k = (k ≤ 72) × (ms ≡ padded 72 (listed (mAt directions) k))

@@ -7,8 +7,8 @@ use borrow.Author.Tests.{eq-eqb, ne-eqb}
 use lib.Dec.{eqb}
 use lib.ListN.{length}
 use Rattle.state.specs.State.{both, sameRun}
-use Rattle.genuine.proofs.same_run.Statement.{statement}
-use Rattle.genuine.proofs.same_run.Tie as tie
+use Rattle.comparison.proofs.same_run.Statement.{statement}
+use Rattle.comparison.proofs.same_run.Tie as tie
 
 -- the arrays' lengths
 long : (c : tie.Start) → (length (c .args .s .numerators) ≡ 6) × (length (c .args .t .numerators) ≡ 6)

@@ -7,8 +7,8 @@ use borrow.Author.Tests.{eq-eqb, ne-eqb, not-true, not-false}
 use lib.Dec.{eqb}
 use lib.ListN.{length}
 use Rattle.state.specs.State.{both, sameWords, samePlan}
-use Rattle.genuine.proofs.same_plan.Statement.{statement}
-use Rattle.genuine.proofs.same_plan.Tie as tie
+use Rattle.comparison.proofs.same_plan.Statement.{statement}
+use Rattle.comparison.proofs.same_plan.Tie as tie
 
 -- the arrays' lengths
 long : (c : tie.Start) → (length (c .args .t .bases) ≡ 6) × (length (c .args .s .polynomials) ≡ 6) × (length (c .args .t .polynomials) ≡ 6)
