@@ -171,7 +171,7 @@ pub fn block(s: Sampler, out: &mut [u64]) -> Blocked
     let bases = s.bases;
     let directions = s.directions;
     let k = block_size(s.count - s.taken, out.len(), axes);
-    points::fill(
+    blocks::fill(
         out,
         s.family,
         axes,

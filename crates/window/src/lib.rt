@@ -99,7 +99,7 @@ fn count_part(
     let mut l = [1u8; 1024];
     let mut i = 0;
     while i < axes {
-        points::fill_column(family, axes, bases, directions, i, n, 0, m, 1, 0, &mut x);
+        blocks::fill_column(family, axes, bases, directions, i, n, 0, m, 1, 0, &mut x);
         let d = points::denominator(family, axes, bases, directions, i);
         let limit = cut_limit(w[2 * i], w[2 * i + 1], d);
         mark(&x, limit, m, &mut l);

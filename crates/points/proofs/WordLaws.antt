@@ -1,5 +1,5 @@
--- Points by arrays as the loops make them: a point's words one by one, and many points as rows of a buffer. Assumes nothing.
-use mathlib.Core.Path.{_≡_, refl, sym, _∙_}
+-- Points by arrays: the words of a point one by one, and how many words many points have. Assumes nothing.
+use mathlib.Core.Path.{_≡_, sym, _∙_}
 use mathlib.Core.List.{List}
 use Prim.Native.Nat.{ℕ, zero, suc, _*_, _<_, _≤_}
 use native.Mathlib.Nat.{zero-mul, suc-mul}
@@ -7,8 +7,7 @@ use native.Mathlib.Omega.{arith}
 use lib.ListN.{length, getD, length-append}
 use Rattle.numbers.specs.Listed.{listed}
 use Rattle.numbers.proofs.ListedLaws.{listed-length, listed-at, padded-length, padded-at}
-use Rattle.columns.specs.Rows.{rows}
-use Rattle.points.specs.Arrays.{numeratorAt, numeratorFrom, pointAt, pointsAt}
+use Rattle.points.specs.Arrays.{numeratorAt, pointAt, pointsAt}
 
 module _ (family axes : ℕ) (bases vs : List ℕ) where
   pub point-at-length : (n : ℕ) → axes ≤ 6 → length (pointAt family axes bases vs n) ≡ 6
@@ -27,9 +26,3 @@ module _ (family axes : ℕ) (bases vs : List ℕ) where
   unfolding pointsAt
   points-at-length n zero = sym (zero-mul axes)
   points-at-length n (suc k) = rw (length-append, points-at-length n k, listed-length, suc-mul)
-
-  -- they are rows of numerators
-  pub points-at-rows : (n k : ℕ) → rows (numeratorFrom family bases vs n) axes k ≡ pointsAt family axes bases vs n k
-  unfolding rows pointsAt numeratorFrom
-  points-at-rows n zero = refl
-  points-at-rows n (suc k) = rw (points-at-rows n k) refl

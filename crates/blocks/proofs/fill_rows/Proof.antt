@@ -1,11 +1,11 @@
--- `points::fill_rows` meets its contract: the columns of the first i axes are written. Assumes nothing.
+-- `blocks::fill_rows` meets its contract: the columns of the first i axes are written. Assumes nothing.
 use native.Mathlib.Omega.{arith}
 use Prim.Native.Nat.{_-_, _≤_}
 use Rattle.columns.specs.Rows.{Columns}
 use Rattle.columns.proofs.ColumnLaws.{columns-none, columns-more, columns-to}
 use Rattle.points.specs.Arrays.{numeratorFrom}
-use Rattle.points.proofs.fill_rows.Statement.{statement}
-use Rattle.points.proofs.fill_rows.Tie as tie
+use Rattle.blocks.proofs.fill_rows.Statement.{statement}
+use Rattle.blocks.proofs.fill_rows.Tie as tie
 
 abbrev Inv-loop : tie.InvT-loop
 Inv-loop family axes bases directions n lo hi out₀ i₀ out i = (i ≤ axes) × Columns (numeratorFrom family bases directions n) lo hi axes i out₀ out

@@ -1,4 +1,4 @@
--- `points::fill` meets its contract: the first i rows are written, and rows of numerators are the points. Assumes nothing.
+-- `blocks::fill` meets its contract: the first i rows are written, and rows of numerators are the points. Assumes nothing.
 use mathlib.Core.Path.{ap, _∙_}
 use mathlib.Core.List.{List, _++_}
 use native.Mathlib.Nat.{mul-le-mul-right}
@@ -7,10 +7,10 @@ use Prim.Native.Nat.{ℕ, _-_, _*_, _≤_, _<_}
 use lib.ListN.{drop}
 use Rattle.columns.specs.Rows.{Columns}
 use Rattle.columns.proofs.ColumnLaws.{columns-empty, columns-join, columns-rows, columns-list}
 use Rattle.points.specs.Arrays.{numeratorFrom}
-use Rattle.points.proofs.FillLaws.{points-at-rows}
-use Rattle.points.proofs.fill.Statement.{statement}
-use Rattle.points.proofs.fill.Tie as tie
+use Rattle.blocks.proofs.RowLaws.{points-at-rows}
+use Rattle.blocks.proofs.fill.Statement.{statement}
+use Rattle.blocks.proofs.fill.Tie as tie
 
 abbrev Inv-loop : tie.InvT-loop
 Inv-loop out₀ family axes bases directions n k i₀ out i = (i ≤ k) × Columns (numeratorFrom family bases directions n) 0 i axes axes out₀ out

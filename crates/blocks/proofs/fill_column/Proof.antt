@@ -1,4 +1,4 @@
--- `points::fill_column` meets its contract: a Sobol axis goes over its own 32 direction numbers, and a Halton axis in its own base.
+-- `blocks::fill_column` meets its contract: a Sobol axis goes over its own 32 direction numbers, and a Halton axis in its own base.
 -- Assumes nothing.
 use native.Mathlib.Omega.{arith}
 use Prim.Native.Nat.{_+_}
@@ -6,10 +6,10 @@ use borrow.Author.Needs.{needs}
 use Rattle.halton_blocks.specs.Filling.{haltonFrom}
 use Rattle.sobol_blocks.specs.Filling.{sobolFrom}
 use Rattle.columns.proofs.ColumnLaws.{column-as}
 use Rattle.points.specs.Arrays.{numeratorFrom}
 use Rattle.points.proofs.ArrayLaws.{base-range, numerator-by-part, numerator-by-base}
-use Rattle.points.proofs.fill_column.Statement.{statement}
-use Rattle.points.proofs.fill_column.Tie as tie
+use Rattle.blocks.proofs.fill_column.Statement.{statement}
+use Rattle.blocks.proofs.fill_column.Tie as tie
 
 mul-first : tie.Need-mul-first
 mul-first c = search needs
