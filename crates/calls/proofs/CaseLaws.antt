@@ -16,7 +16,7 @@ use Rattle.writer.specs.declared.PlanWritten.{PlanWritten}
 use Rattle.writer.proofs.RoundTrip.{read-accepted}
 use Rattle.state.specs.State.{made, blank, planIn, genuine}
 use Rattle.state.specs.declared.Sampler.{Sampler}
-use Rattle.sampler.specs.Calls.{moved, blocked, readState, readSpec, writeSpec, writeBuf, openSpec, jumpSpec, jumpBuf, stepSpec, stepBuf, blockSize, blockSpec, blockBuf, secondSpec}
+use Rattle.calls.specs.Calls.{moved, blocked, readState, readSpec, writeSpec, writeBuf, openSpec, jumpSpec, jumpBuf, stepSpec, stepBuf, blockSize, blockSpec, blockBuf, secondSpec}
 
 -- ---- the test that every call makes first, negated in the code
 

@@ -1,4 +1,4 @@
--- `sampler::step_in_place` meets its contract: a walk of its MIR, by hand. The borrow of the sampler is opened and its value copied out; `step` is called
+-- `run_calls::step_in_place` meets its contract: a walk of its MIR, by hand. The borrow of the sampler is opened and its value copied out; `step` is called
 -- on the copy and on the slice, which is given up for good (at its own lifetime, share and name); the state that came back is stored and the borrow is closed at it.
 -- Assumes nothing.
 use mathlib.Core.Path.{_≡_, refl, ap}
@@ -40,21 +40,21 @@ use denote.Triple.Call.{calls-at}
 use denote.Triple.Clauses.{ensured, lasts}
 use denote.Triple.Table.{entered, cited}
 use denote.Triple.Walked.{says, Stays, stay-ref, gave-slice, walkOf, goes-ref, goes-gave-slice, Walks, ends-at, walked, walk-meets}
-use Rattle.sampler.specs.Calls.{stepSpec, stepBuf}
+use Rattle.calls.specs.Calls.{stepSpec, stepBuf}
 use Rattle.state.specs.declared.Sampler.{Sampler}
-use Rattle.sampler.specs.declared.Moved.{Moved}
+use Rattle.calls.specs.declared.Moved.{Moved}
 use Rattle.state.proofs.Sampler as T
 use Rattle.state.proofs.Sampler.Laws as T′
-use Rattle.sampler.proofs.Moved as S
-use Rattle.sampler.proofs.Moved.Laws as S′
-use Rattle.sampler.proofs.step as callee
-use Rattle.sampler.proofs.step.Symbol as callee-def
-use Rattle.sampler.proofs.step.Symbol.{name as #sampler·step}
-use Rattle.sampler.proofs.step.Met as callee-thm
-use Rattle.sampler.proofs.step_in_place.Key.{name as #sampler·step-in-place}
-use Rattle.sampler.proofs.step_in_place as f
-use Rattle.sampler.proofs.step_in_place.Statement as stated
-use Rattle.sampler.proofs.step_in_place.Code as code
+use Rattle.calls.proofs.Moved as S
+use Rattle.calls.proofs.Moved.Laws as S′
+use Rattle.run_calls.proofs.step as callee
+use Rattle.run_calls.proofs.step.Symbol as callee-def
+use Rattle.run_calls.proofs.step.Symbol.{name as #run-calls·step}
+use Rattle.run_calls.proofs.step.Met as callee-thm
+use Rattle.run_calls.proofs.step_in_place.Key.{name as #run-calls·step-in-place}
+use Rattle.run_calls.proofs.step_in_place as f
+use Rattle.run_calls.proofs.step_in_place.Statement as stated
+use Rattle.run_calls.proofs.step_in_place.Code as code
 
 abbrev stayed : Stays (f.ended .signature .params) (f.ended .kept)
 stayed = (stay-ref (0 ∷ []) tt (plain (λ _. T.the-row)), (gave-slice (1 ∷ []) tt (plain (λ _. u64)), tt))
@@ -106,7 +106,7 @@ module _ {M : Type 1} (𝓤 : URA M) (H : Heap 𝓤) (A : Atoms 𝓤) (W : Given
       nothing ! $ move ! (2 ∷ 0 ∷ []) $ fjoin ! $ move ! (1 ∷ 0 ∷ []) $ fjoin ! $
       owned ! u64 (Is u64) (uint-makes 𝓤 H A W w64) (r .code) _ (refl, fits) $ move ! (1 ∷ 0 ∷ []) $ done !
 
-  module _ (C : Calls 𝓤 H) (Λ : Loops 𝓤 H) (fm : FmC 𝓤 H (W .laws) C) (known : Triple 𝓤 (C #sampler·step) (Callee 𝓤 H A at-mem run)) where
+  module _ (C : Calls 𝓤 H) (Λ : Loops 𝓤 H) (fm : FmC 𝓤 H (W .laws) C) (known : Triple 𝓤 (C #run-calls·step) (Callee 𝓤 H A at-mem run)) where
     walk : Room u64 (length ys) → ent 𝓤 (onEntry 𝓤 H A f.signature (κ, (κ′, tt)) (q, (q′, tt)) a at) (WpFn 𝓤 H C Λ code.function (vptr b o ∷ s ∷ []) Post)
     walk room =
         qed W ((‵ (flft κ q) ⊛ ‵ (flft κ′ q′) ⊛ ‵ ftrue) ∷ ‵ (owns (MutRef (named 0) κ T.the-row ∷ MutSlice (named 1) κ′ u64 ∷ []) a at) ∷ []) ∵ enter ! C Λ code.function (vptr b o ∷ s ∷ []) _ $
@@ -142,11 +142,11 @@ module _ {M : Type 1} (𝓤 : URA M) (H : Heap 𝓤) (A : Atoms 𝓤) (W : Given
         keep ! (0 ∷ 1 ∷ 2 ∷ 4 ∷ 5 ∷ []) $ by ! (exits r (zs .1 .0) e l (parts .0 .1)))))))))))))))))
 
 module _ {M : Type 1} (𝓤 : URA M) (H : Heap 𝓤) (A : Atoms 𝓤) (W : Given 𝓤 H A) (mem : Memory → SProp 𝓤) (run : Routine → Fun 𝓤) where
-  step-in-place-walks : (C : Calls 𝓤 H) (Λ : Loops 𝓤 H) → FmC 𝓤 H (W .laws) C → Triple 𝓤 (C #sampler·step) (Callee 𝓤 H A mem run) → Walks 𝓤 H A f.ended stayed (WpFn 𝓤 H C Λ code.function) (f.clauses 𝓤 H A mem run)
+  step-in-place-walks : (C : Calls 𝓤 H) (Λ : Loops 𝓤 H) → FmC 𝓤 H (W .laws) C → Triple 𝓤 (C #run-calls·step) (Callee 𝓤 H A mem run) → Walks 𝓤 H A f.ended stayed (WpFn 𝓤 H C Λ code.function) (f.clauses 𝓤 H A mem run)
   step-in-place-walks C Λ fm known = walked 𝓤 H A f.ended stayed (f.clauses 𝓤 H A mem run) (WpFn 𝓤 H C Λ code.function) (λ κs. (ptr-vals, (slice-vals, tt))) (λ κs. (mut-tells (named 0) (κs .0) T.the-row, (mut-slice-tells (named 1) (κs .1 .0) u64, tt)))
       (λ κs qs bounds a g are. via 𝓤 _ (fst∗ 𝓤 _ (emp 𝓤)) (walk 𝓤 H A W mem run (κs .0) (κs .1 .0) (qs .0) (qs .1 .0) (a .0 .ptr .0) (a .0 .ptr .1) (a .0 .name) (a .0 .now) (a .1 .0 .ptr .0) (a .1 .0 .ptr .1) (a .1 .0 .name) (a .1 .0 .now) C Λ fm known (are .1 .0 .0 .1)))
 
-step-in-place-meets : {M : Type 1} (𝓤 : URA M) (H : Heap 𝓤) (A : Atoms 𝓤) → Given 𝓤 H A → (mem : Memory → SProp 𝓤) (run : Routine → Fun 𝓤) (𝓣 : Tables 𝓤 H) → Triple 𝓤 (𝓣 .C #sampler·step) (Callee 𝓤 H A mem run)
+step-in-place-meets : {M : Type 1} (𝓤 : URA M) (H : Heap 𝓤) (A : Atoms 𝓤) → Given 𝓤 H A → (mem : Memory → SProp 𝓤) (run : Routine → Fun 𝓤) (𝓣 : Tables 𝓤 H) → Triple 𝓤 (𝓣 .C #run-calls·step) (Callee 𝓤 H A mem run)
     → Meets 𝓤 H A f.signature (WpFn 𝓤 H (𝓣 .C) (𝓣 .Λ) code.function) (f.spec 𝓤 H A mem run)
 step-in-place-meets 𝓤 H A W mem run 𝓣 known =
     walk-meets 𝓤 H A f.ended stayed W (goes-ref 𝓤 H A W 2 0 tt (plain (λ _. T.the-row)), (goes-gave-slice 𝓤 H A W 2 1 tt (plain (λ _. u64)), tt)) (f.clauses 𝓤 H A mem run)
@@ -156,6 +156,6 @@ pub step-in-place-spec : {M : Type 1} → stated.statement M
 unfolding code.routine tablesOf
 step-in-place-spec 𝓤 H 𝓜 𝓖 𝓡 =
     entered 𝓤 H (tripleOf 𝓤 H (𝓖 .A) f.signature (f.spec 𝓤 H (𝓖 .A) (𝓜 .mem) (𝓡 .run)))
-    (tables 𝓤 H 𝓜 𝓡 code.env .C) (tables 𝓤 H 𝓜 𝓡 code.env .Λ) #sampler·step-in-place code.function (code.unfolded 𝓤 H 𝓜 𝓡)
+    (tables 𝓤 H 𝓜 𝓡 code.env .C) (tables 𝓤 H 𝓜 𝓡 code.env .Λ) #run-calls·step-in-place code.function (code.unfolded 𝓤 H 𝓜 𝓡)
     (step-in-place-meets 𝓤 H (𝓖 .A) (givenOf 𝓤 H 𝓜 𝓖) (𝓜 .mem) (𝓡 .run) (tablesOf 𝓤 H 𝓜 (tables 𝓤 H 𝓜 𝓡 code.env))
-    (cited 𝓤 H (Callee 𝓤 H (𝓖 .A) (𝓜 .mem) (𝓡 .run)) 𝓜 𝓡 code.env #sampler·step callee-def.routine code.calls-sampler·step (callee-thm.met 𝓤 H 𝓜 𝓖 𝓡)))
+    (cited 𝓤 H (Callee 𝓤 H (𝓖 .A) (𝓜 .mem) (𝓡 .run)) 𝓜 𝓡 code.env #run-calls·step callee-def.routine code.calls-run-calls·step (callee-thm.met 𝓤 H 𝓜 𝓖 𝓡)))

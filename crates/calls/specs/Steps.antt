@@ -3,7 +3,7 @@ use mathlib.Core.List.{List, [], _++_}
 use Prim.Native.Nat.{ℕ, zero, suc}
 use lib.ListN.{take}
 use Rattle.state.specs.declared.Sampler.{Sampler}
-use Rattle.sampler.specs.Calls.{stepSpec, stepBuf}
+use Rattle.calls.specs.Calls.{stepSpec, stepBuf}
 
 -- the points that k steps write
 unfoldable pub stepsPoints : ℕ → Sampler → List ℕ → List ℕ

@@ -4,9 +4,9 @@ use mathlib.Core.Bool.{true, false}
 use Prim.Native.Nat.{_-_}
 use borrow.Author.Needs.{needs}
 use Rattle.state.specs.State.{genuine}
-use Rattle.sampler.proofs.CaseLaws.{foreign-of, known-of, write-foreign, write-done}
-use Rattle.sampler.proofs.write.Statement.{statement}
-use Rattle.sampler.proofs.write.Tie as tie
+use Rattle.calls.proofs.CaseLaws.{foreign-of, known-of, write-foreign, write-done}
+use Rattle.plan_calls.proofs.write.Statement.{statement}
+use Rattle.plan_calls.proofs.write.Tie as tie
 
 is-genuine-requires : tie.Need-is-genuine-requires
 is-genuine-requires c κs = tt

@@ -18,9 +18,9 @@ use Rattle.state.specs.History.{Left, read, opened, served}
 use Rattle.state.proofs.PlanLaws.{plan-in-made}
 use Rattle.state.proofs.GenuineLaws.{Permitted, made-genuine}
 use Rattle.state.proofs.HistoryLaws.{left-valid, left-permitted}
-use Rattle.sampler.specs.Calls.{moved, readState, readSpec, openSpec, jumpBuf, stepSpec, stepBuf, blockSize, blockSpec, blockBuf, secondSpec}
-use Rattle.sampler.specs.Steps.{stepsPoints, stepsState}
-use Rattle.sampler.proofs.CaseLaws.{open-done, jump-done, step-spent, step-done, block-done, second-done}
+use Rattle.calls.specs.Calls.{moved, readState, readSpec, openSpec, jumpBuf, stepSpec, stepBuf, blockSize, blockSpec, blockBuf, secondSpec}
+use Rattle.calls.specs.Steps.{stepsPoints, stepsState}
+use Rattle.calls.proofs.CaseLaws.{open-done, jump-done, step-spent, step-done, block-done, second-done}
 
 module _ (p : Plan) (v : Valid p) (start count : ℕ) (fits : start + count ≤ 2 ^ 32) where
   permits : (taken : ℕ) → taken ≤ count → Permitted start count taken

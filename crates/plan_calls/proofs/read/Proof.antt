@@ -3,10 +3,10 @@ use mathlib.Core.Path.{sym, ap, _∙_}
 use Prim.Native.Nat.{_-_}
 use native.Mathlib.Omega.{arith}
 use Rattle.bits.proofs.StreamLaws.{below-of}
-use Rattle.sampler.specs.Calls.{moved}
-use Rattle.sampler.proofs.CaseLaws.{read-refused, read-done}
-use Rattle.sampler.proofs.read.Statement.{statement}
-use Rattle.sampler.proofs.read.Tie as tie
+use Rattle.calls.specs.Calls.{moved}
+use Rattle.calls.proofs.CaseLaws.{read-refused, read-done}
+use Rattle.plan_calls.proofs.read.Statement.{statement}
+use Rattle.plan_calls.proofs.read.Tie as tie
 
 read-plan-requires : tie.Need-read-plan-requires
 read-plan-requires c κs = tt

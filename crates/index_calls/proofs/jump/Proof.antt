@@ -5,10 +5,10 @@ use Prim.Native.Nat.{_-_}
 use native.Mathlib.Omega.{arith}
 use borrow.Author.Needs.{needs}
 use Rattle.state.specs.State.{genuine}
-use Rattle.sampler.proofs.CaseLaws.{foreign-of, known-of, jump-foreign, jump-out, jump-no-room, jump-done}
-use Rattle.sampler.proofs.PointLaws.{axes-few, point-put, known-arrays}
-use Rattle.sampler.proofs.jump.Statement.{statement}
-use Rattle.sampler.proofs.jump.Tie as tie
+use Rattle.calls.proofs.CaseLaws.{foreign-of, known-of, jump-foreign, jump-out, jump-no-room, jump-done}
+use Rattle.calls.proofs.PointLaws.{axes-few, point-put, known-arrays}
+use Rattle.index_calls.proofs.jump.Statement.{statement}
+use Rattle.index_calls.proofs.jump.Tie as tie
 
 is-genuine-requires : tie.Need-is-genuine-requires
 is-genuine-requires c κs = tt

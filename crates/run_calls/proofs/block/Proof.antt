@@ -9,11 +9,11 @@ use lib.ListN.{drop}
 use Rattle.points.specs.Point.{pointsFrom}
 use Rattle.state.specs.State.{made, planIn, genuine}
 use Rattle.state.specs.declared.Sampler.{Sampler}
-use Rattle.sampler.specs.declared.Blocked.{Blocked}
-use Rattle.sampler.proofs.CaseLaws.{foreign-of, known-of, block-foreign, block-spent, block-no-room, block-done}
-use Rattle.sampler.proofs.PointLaws.{axes-few, known-arrays, known-run, points-put, block-fits}
-use Rattle.sampler.proofs.block.Statement.{statement}
-use Rattle.sampler.proofs.block.Tie as tie
+use Rattle.calls.specs.declared.Blocked.{Blocked}
+use Rattle.calls.proofs.CaseLaws.{foreign-of, known-of, block-foreign, block-spent, block-no-room, block-done}
+use Rattle.calls.proofs.PointLaws.{axes-few, known-arrays, known-run, points-put, block-fits}
+use Rattle.run_calls.proofs.block.Statement.{statement}
+use Rattle.run_calls.proofs.block.Tie as tie
 
 is-genuine-requires : tie.Need-is-genuine-requires
 is-genuine-requires c κs = tt

@@ -4,11 +4,11 @@ use mathlib.Core.Bool.{true, false}
 use native.Mathlib.Omega.{arith}
 use borrow.Author.Needs.{needs}
 use Rattle.state.specs.State.{genuine}
-use Rattle.sampler.specs.Calls.{moved}
-use Rattle.sampler.proofs.CaseLaws.{foreign-of, known-of, step-foreign, step-spent, step-no-room, step-done}
-use Rattle.sampler.proofs.PointLaws.{axes-few, point-put, known-next}
-use Rattle.sampler.proofs.step.Statement.{statement}
-use Rattle.sampler.proofs.step.Tie as tie
+use Rattle.calls.specs.Calls.{moved}
+use Rattle.calls.proofs.CaseLaws.{foreign-of, known-of, step-foreign, step-spent, step-no-room, step-done}
+use Rattle.calls.proofs.PointLaws.{axes-few, point-put, known-next}
+use Rattle.run_calls.proofs.step.Statement.{statement}
+use Rattle.run_calls.proofs.step.Tie as tie
 
 is-genuine-requires : tie.Need-is-genuine-requires
 is-genuine-requires c κs = tt

@@ -10,10 +10,10 @@ use Rattle.writer.specs.Parts.{writtenCode, writtenLength, written}
 use Rattle.writer.specs.declared.PlanWritten.{PlanWritten}
 use Rattle.state.specs.State.{pick, made, blank, planIn, genuine}
 use Rattle.state.specs.declared.Sampler.{Sampler}
-use Rattle.sampler.specs.declared.Moved.{Moved}
-use Rattle.sampler.specs.declared.Jumped.{Jumped}
-use Rattle.sampler.specs.declared.Blocked.{Blocked}
-use Rattle.sampler.specs.declared.SecondOfDay.{SecondOfDay}
+use Rattle.calls.specs.declared.Moved.{Moved}
+use Rattle.calls.specs.declared.Jumped.{Jumped}
+use Rattle.calls.specs.declared.Blocked.{Blocked}
+use Rattle.calls.specs.declared.SecondOfDay.{SecondOfDay}
 
 abbrev pub moved : ℕ → Sampler → Moved
 moved n s = record { code = n; state = s }

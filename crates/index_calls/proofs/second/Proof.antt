@@ -7,10 +7,10 @@ use borrow.Author.Needs.{needs}
 use Rattle.state.specs.State.{genuine}
 use Rattle.points.specs.Point.{numeratorOf, denominatorOf, slotOf}
 use Rattle.state.specs.State.{planIn}
-use Rattle.sampler.proofs.CaseLaws.{foreign-of, known-of, second-foreign, second-out, second-done}
-use Rattle.sampler.proofs.PointLaws.{axes-few, known-arrays, known-numerator, known-denominator, fraction-small}
-use Rattle.sampler.proofs.second.Statement.{statement}
-use Rattle.sampler.proofs.second.Tie as tie
+use Rattle.calls.proofs.CaseLaws.{foreign-of, known-of, second-foreign, second-out, second-done}
+use Rattle.calls.proofs.PointLaws.{axes-few, known-arrays, known-numerator, known-denominator, fraction-small}
+use Rattle.index_calls.proofs.second.Statement.{statement}
+use Rattle.index_calls.proofs.second.Tie as tie
 
 is-genuine-requires : tie.Need-is-genuine-requires
 is-genuine-requires c κs = tt

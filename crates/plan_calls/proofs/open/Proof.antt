@@ -3,10 +3,10 @@ use mathlib.Core.Path.{_≡_, sym, ap, _∙_}
 use mathlib.Core.Bool.{true, false}
 use native.Mathlib.Omega.{arith}
 use Rattle.state.specs.State.{genuine}
-use Rattle.sampler.specs.Calls.{moved}
-use Rattle.sampler.proofs.CaseLaws.{foreign-of, known-of, open-foreign, open-out, open-done}
-use Rattle.sampler.proofs.open.Statement.{statement}
-use Rattle.sampler.proofs.open.Tie as tie
+use Rattle.calls.specs.Calls.{moved}
+use Rattle.calls.proofs.CaseLaws.{foreign-of, known-of, open-foreign, open-out, open-done}
+use Rattle.plan_calls.proofs.open.Statement.{statement}
+use Rattle.plan_calls.proofs.open.Tie as tie
 
 is-genuine-requires : tie.Need-is-genuine-requires
 is-genuine-requires c κs = tt
