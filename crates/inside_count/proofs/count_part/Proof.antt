@@ -1,15 +1,16 @@
--- `window::count_part` meets its contract: after i axes a flag says whether its point is inside on them. Assumes nothing.
+-- `inside_count::count_part` meets its contract: after i axes a flag says whether its point is inside on them. Assumes nothing.
 use mathlib.Core.Path.{_≡_, refl, ap, _∙_, subst}
 use Prim.Native.Nat.{ℕ, _+_, _-_, _*_, _≤_, _<_}
 use native.Mathlib.Omega.{arith}
 use borrow.Author.Needs.{needs}
 use lib.ListN.{length}
 use Rattle.points.proofs.ArrayLaws.{denominator-at-lt}
 use Rattle.window.specs.Counting.{uOf, qOf}
-use Rattle.window.specs.Walking.{insideFrom, cutLimit, Flags}
-use Rattle.window.proofs.WalkLaws.{flags-none, flags-more}
-use Rattle.window.proofs.count_part.Statement.{statement}
-use Rattle.window.proofs.count_part.Tie as tie
+use Rattle.window.specs.Walking.{insideFrom}
+use Rattle.inside_count.specs.Marking.{cutLimit, Flags}
+use Rattle.inside_count.proofs.MarkLaws.{flags-none, flags-more}
+use Rattle.inside_count.proofs.count_part.Statement.{statement}
+use Rattle.inside_count.proofs.count_part.Tie as tie
 
 abbrev Inv-loop : tie.InvT-loop
 Inv-loop family axes bases directions n m w x₀ l₀ i₀ x l i = (i ≤ axes) × Flags (insideFrom family bases directions w i n) m l × (length x ≡ 1024) × (length l ≡ 1024)

@@ -1,13 +1,13 @@
--- `window::total` meets its contract: so many of the first i flags are set. Assumes nothing.
+-- `inside_count::total` meets its contract: so many of the first i flags are set. Assumes nothing.
 use native.Mathlib.Omega.{arith}
 use mathlib.Core.Path.{_≡_, sym, ap, ap₂, _∙_}
 use mathlib.Core.Bool.{Bool}
 use Prim.Native.Nat.{ℕ, _+_, _-_, _*_, _≤_}
 use Rattle.numbers.specs.Count.{count}
-use Rattle.window.specs.Walking.{Flags}
-use Rattle.window.proofs.WalkLaws.{count-more, count-none}
-use Rattle.window.proofs.total.Statement.{statement}
-use Rattle.window.proofs.total.Tie as tie
+use Rattle.inside_count.specs.Marking.{Flags}
+use Rattle.inside_count.proofs.MarkLaws.{count-more, count-none}
+use Rattle.inside_count.proofs.total.Statement.{statement}
+use Rattle.inside_count.proofs.total.Tie as tie
 
 abbrev Inv-loop : tie.InvT-loop
 Inv-loop l m t₀ i₀ t i = (i ≤ m) × (t ≤ 255 * i) × ((p : ℕ → Bool) → Flags p m l → t ≡ count p i)

@@ -1,12 +1,12 @@
--- `window::count_inside` meets its contract: so many of the first i points are inside. Assumes nothing.
+-- `inside_count::count_inside` meets its contract: so many of the first i points are inside. Assumes nothing.
 use mathlib.Core.Path.{_≡_, sym, ap, ap₂, _∙_}
 use Prim.Native.Nat.{_+_, _-_, _≤_, _<_}
 use native.Mathlib.Omega.{arith}
 use Rattle.numbers.specs.Count.{count}
 use Rattle.window.specs.Walking.{insideFrom}
-use Rattle.window.proofs.WalkLaws.{parts-join, count-none, count-le}
-use Rattle.window.proofs.count_inside.Statement.{statement}
-use Rattle.window.proofs.count_inside.Tie as tie
+use Rattle.inside_count.proofs.MarkLaws.{parts-join, count-none, count-le}
+use Rattle.inside_count.proofs.count_inside.Statement.{statement}
+use Rattle.inside_count.proofs.count_inside.Tie as tie
 
 abbrev Inv-loop : tie.InvT-loop
 Inv-loop family axes bases directions n k w t₀ i₀ t i = (i ≤ k) × (t ≡ count (insideFrom family bases directions w axes n) i)

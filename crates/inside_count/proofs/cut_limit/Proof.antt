@@ -1,12 +1,12 @@
--- `window::cut_limit` meets its contract: u × d is below 2^64 by more than 2^24. Assumes nothing.
+-- `inside_count::cut_limit` meets its contract: u × d is below 2^64 by more than 2^24. Assumes nothing.
 use mathlib.Core.Path.{refl}
 use Prim.Native.Nat.{_-_, _*_, _^_, _≤_}
 use native.Mathlib.Nat.{mul-le-mul}
 use native.Mathlib.Omega.{arith}
 use borrow.Author.Needs.{needs}
-use Rattle.window.specs.Walking.{cutLimit}
-use Rattle.window.proofs.cut_limit.Statement.{statement}
-use Rattle.window.proofs.cut_limit.Tie as tie
+use Rattle.inside_count.specs.Marking.{cutLimit}
+use Rattle.inside_count.proofs.cut_limit.Statement.{statement}
+use Rattle.inside_count.proofs.cut_limit.Tie as tie
 
 small : (c : tie.Start) → c .args .u * c .args .d ≤ 2 ^ 24 * (2 ^ 40 - 1)
 small c = mul-le-mul {n₂ = 2 ^ 24} {m₂ = 2 ^ 40 - 1} (omega arith) (omega arith)

@@ -1,13 +1,13 @@
--- `window::mark` meets its contract: the first i flags are tested, the others as they were. Assumes nothing.
+-- `inside_count::mark` meets its contract: the first i flags are tested, the others as they were. Assumes nothing.
 use native.Mathlib.Omega.{arith}
 use mathlib.Core.Path.{ap, _∙_}
 use Prim.Native.Nat.{_-_, _≤_}
 use lib.Dec.{ltb}
 use lib.ListN.{getD}
 use Rattle.numbers.proofs.ListedLaws.{Over, over-none, over-store}
-use Rattle.window.specs.Walking.{keepIf, marked}
-use Rattle.window.proofs.mark.Statement.{statement}
-use Rattle.window.proofs.mark.Tie as tie
+use Rattle.inside_count.specs.Marking.{keepIf, marked}
+use Rattle.inside_count.proofs.mark.Statement.{statement}
+use Rattle.inside_count.proofs.mark.Tie as tie
 
 abbrev Inv-loop : tie.InvT-loop
 Inv-loop x limit m l₀ i₀ l i = (i ≤ m) × Over (marked limit x l₀) l₀ l i
