@@ -3,7 +3,7 @@ use libc::STDOUT_FILENO;
 use sampler::Moved;
 use state::Sampler;
 ghost use mathlib.Core.Path.{_≡_};
-ghost use Rattle.sampler.specs.Calls.{stepSpec, stepBuf};
+ghost use Rattle.calls.specs.Calls.{stepSpec, stepBuf};
 
 // One waking: the collector's own sampler is lent to the step, and holds the next state afterwards.
 fn wake(s: Sampler, point: &mut [u64]) -> Moved

@@ -1,4 +1,2 @@
 -- Laws of the test.
-pub mod WordLaws
-pub mod SpellableLaws
 pub mod TestLaws

@@ -17,8 +17,8 @@ use Rattle.state.specs.declared.Sampler.{Sampler}
 use Rattle.state.proofs.GenuineLaws.{Genuine, genuine-is}
 use Rattle.writer.specs.Parts.{Writable, noRoom, writtenIf, Written}
 use Rattle.writer.proofs.RoundTrip.{read-accepted}
-use Rattle.genuine.proofs.WordLaws.{is-false}
-use Rattle.genuine.proofs.SpellableLaws.{writable-in}
+use Rattle.comparison.proofs.WordLaws.{is-false}
+use Rattle.spellable.proofs.SpellableLaws.{writable-in}
 
 not-genuine : (s : Sampler) → (Genuine s → ⊥) → false ≡ genuine s
 not-genuine s h = is-false (genuine s) (λ e. h (genuine-is s e))

@@ -1,7 +1,7 @@
 // Reading the bases of a Halton plan: the fields in their order, and the first refusal that holds.
 use plan::refusal;
 ghost use mathlib.Core.Path.{_≡_};
-ghost use Prim.Native.Nat.{ℕ, _+_, _*_, _≤_};
+ghost use Prim.Native.Nat.{_+_, _*_, _≤_};
 ghost use lib.ListN.{length, take, replicate};
 ghost use Rattle.plan.specs.Reading.{sharesFactor};
 ghost use Rattle.halton_reader.specs.Bases.{BasesSay};

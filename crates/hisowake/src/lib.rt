@@ -80,7 +80,7 @@ fn put_count(out: &mut [u8], a: PlanRead, start: u64, count: u64, window: &[u8])
     let directions = state::plan_directions(a);
     let w = words::window_numbers(window, axes);
     let end = 2 * axes;
-    let inside = window::count_inside(
+    let inside = inside_count::count_inside(
         a.family,
         axes,
         &bases,

@@ -18,9 +18,9 @@ use Rattle.state.specs.State.{pick, made}
 use Rattle.state.specs.History.{Left}
 use Rattle.state.proofs.GenuineLaws.{made-genuine}
 use Rattle.state.proofs.HistoryLaws.{left-valid, left-permitted}
-use Rattle.sampler.specs.Calls.{moved, readSpec, openSpec}
-use Rattle.sampler.proofs.CaseLaws.{open-out}
-use Rattle.sampler.proofs.RunLaws.{read-left, open-left}
+use Rattle.calls.specs.Calls.{moved, readSpec, openSpec}
+use Rattle.calls.proofs.CaseLaws.{open-out}
+use Rattle.calls.proofs.RunLaws.{read-left, open-left}
 use Rattle.window.specs.Counting.{isWindow}
 use Rattle.window_count.specs.Call.{countSpec}
 use Rattle.window_count.proofs.CaseLaws.{count-off}

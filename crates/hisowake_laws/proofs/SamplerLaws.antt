@@ -22,9 +22,9 @@ use Rattle.state.specs.declared.Sampler.{Sampler}
 use Rattle.state.proofs.PlanLaws.{plan-in-made}
 use Rattle.state.proofs.GenuineLaws.{made-genuine}
 use Rattle.state.proofs.StateLaws.{blank-foreign}
-use Rattle.sampler.specs.Calls.{readState, readSpec, jumpSpec, jumpBuf}
-use Rattle.sampler.specs.declared.Jumped.{Jumped}
-use Rattle.sampler.proofs.CaseLaws.{jump-foreign, jump-out, jump-no-room, jump-done}
+use Rattle.calls.specs.Calls.{readState, readSpec, jumpSpec, jumpBuf}
+use Rattle.calls.specs.declared.Jumped.{Jumped}
+use Rattle.calls.proofs.CaseLaws.{jump-foreign, jump-out, jump-no-room, jump-done}
 use Rattle.words.specs.Bytes.{wordBytes}
 use Rattle.hisowake.specs.Calls.{pointRefusal, pointCode, pointBytes}
 use Rattle.words.proofs.ByteLaws.{length-words, words-append, words-drop}

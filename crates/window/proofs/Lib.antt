@@ -1,5 +1,5 @@
 -- Laws of windows.
 pub mod Demand3
 pub mod WindowLaws
-pub mod WalkLaws
+pub mod RangeLaws
 pub mod PlanLaws

@@ -17,7 +17,7 @@ use Rattle.state.proofs.GenuineLaws.{made-genuine}
 use Rattle.state.proofs.HistoryLaws.{left-valid, left-permitted}
 use Rattle.window.specs.Counting.{insideCount, uProduct, qProduct, boundOf, Cuts, isWindow}
 use Rattle.window.proofs.Demand3.{demand-3}
-use Rattle.window.proofs.WalkLaws.{window-cuts}
+use Rattle.window.proofs.RangeLaws.{window-cuts}
 use Rattle.window_count.specs.Call.{counted, countSpec}
 use Rattle.window_count.specs.Opening.{lastStart, lastCount}
 use Rattle.window_count.proofs.CaseLaws.{count-done}

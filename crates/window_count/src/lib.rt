@@ -35,7 +35,7 @@ pub fn count(s: Sampler, w: &[u64]) -> Counted
     }
     let bases = s.bases;
     let directions = s.directions;
-    let inside = window::count_inside(
+    let inside = inside_count::count_inside(
         s.family,
         axes,
         &bases,

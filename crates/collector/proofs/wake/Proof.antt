@@ -43,17 +43,17 @@ use denote.Triple.Call.{calls-at}
 use denote.Triple.Clauses.{ensured, lasts}
 use denote.Triple.Table.{entered, cited}
 use denote.Triple.Walked.{says, Stays, stay-none, gave-slice, walkOf, goes-none, goes-gave-slice, Walks, ends-at, walked, walk-meets}
-use Rattle.sampler.specs.Calls.{stepSpec, stepBuf}
+use Rattle.calls.specs.Calls.{stepSpec, stepBuf}
 use Rattle.state.specs.declared.Sampler.{Sampler}
-use Rattle.sampler.specs.declared.Moved.{Moved}
+use Rattle.calls.specs.declared.Moved.{Moved}
 use Rattle.state.proofs.Sampler as T
 use Rattle.state.proofs.Sampler.Laws as T′
-use Rattle.sampler.proofs.Moved as S
-use Rattle.sampler.proofs.Moved.Laws as S′
-use Rattle.sampler.proofs.step_in_place as callee
-use Rattle.sampler.proofs.step_in_place.Symbol as callee-def
-use Rattle.sampler.proofs.step_in_place.Symbol.{name as #sampler·step-in-place}
-use Rattle.sampler.proofs.step_in_place.Met as callee-thm
+use Rattle.calls.proofs.Moved as S
+use Rattle.calls.proofs.Moved.Laws as S′
+use Rattle.run_calls.proofs.step_in_place as callee
+use Rattle.run_calls.proofs.step_in_place.Symbol as callee-def
+use Rattle.run_calls.proofs.step_in_place.Symbol.{name as #run-calls·step-in-place}
+use Rattle.run_calls.proofs.step_in_place.Met as callee-thm
 use Rattle.collector.proofs.wake.Key.{name as #collector·wake}
 use Rattle.collector.proofs.wake as f
 use Rattle.collector.proofs.wake.Statement as stated
@@ -129,7 +129,7 @@ module _ {M : Type 1} (𝓤 : URA M) (H : Heap 𝓤) (A : Atoms 𝓤) (W : Given
       nothing ! $ move ! (1 ∷ 0 ∷ []) $ fjoin ! $ owned ! T.the-row (Is T.the-row) (LL.makes T.the-type T′.the-plain 𝓤 H A) h _ g $ fjoin ! $
       owned ! S.the-row (Is S.the-row) (LL.makes S.the-type S′.the-plain 𝓤 H A) (record { code = r; state = k }) _ (LL.owes S.the-type S′.the-laws (record { code = r; state = k }) ((refl, fits), (is, tt))) $ move ! (1 ∷ 0 ∷ []) $ done !
 
-  module _ (C : Calls 𝓤 H) (Λ : Loops 𝓤 H) (fm : FmC 𝓤 H (W .laws) C) (known : Triple 𝓤 (C #sampler·step-in-place) (Callee 𝓤 H A at-mem run)) where
+  module _ (C : Calls 𝓤 H) (Λ : Loops 𝓤 H) (fm : FmC 𝓤 H (W .laws) C) (known : Triple 𝓤 (C #run-calls·step-in-place) (Callee 𝓤 H A at-mem run)) where
     walk : Room u64 (length ys) → ent 𝓤 (onEntry 𝓤 H A f.signature (κ, tt) (q, tt) a at) (WpFn 𝓤 H C Λ code.function (only (vals h) ∷ s ∷ []) Post)
     walk room =
         let typed = LL.lawful T.the-type T′.the-laws 𝓤 H A W .typed h _ g .0 in
@@ -167,11 +167,11 @@ module _ {M : Type 1} (𝓤 : URA M) (H : Heap 𝓤) (A : Atoms 𝓤) (W : Given
         keep ! (1 ∷ 3 ∷ []) $ by ! (exits r (zs .0) (zs .1 .0) e l (is .1) k)))))))))))))))))))
 
 module _ {M : Type 1} (𝓤 : URA M) (H : Heap 𝓤) (A : Atoms 𝓤) (W : Given 𝓤 H A) (mem : Memory → SProp 𝓤) (run : Routine → Fun 𝓤) where
-  wake-walks : (C : Calls 𝓤 H) (Λ : Loops 𝓤 H) → FmC 𝓤 H (W .laws) C → Triple 𝓤 (C #sampler·step-in-place) (Callee 𝓤 H A mem run) → Walks 𝓤 H A f.ended stayed (WpFn 𝓤 H C Λ code.function) (f.clauses 𝓤 H A mem run)
+  wake-walks : (C : Calls 𝓤 H) (Λ : Loops 𝓤 H) → FmC 𝓤 H (W .laws) C → Triple 𝓤 (C #run-calls·step-in-place) (Callee 𝓤 H A mem run) → Walks 𝓤 H A f.ended stayed (WpFn 𝓤 H C Λ code.function) (f.clauses 𝓤 H A mem run)
   wake-walks C Λ fm known = walked 𝓤 H A f.ended stayed (f.clauses 𝓤 H A mem run) (WpFn 𝓤 H C Λ code.function) (λ κs. (vals, (slice-vals, tt))) (λ κs. (LL.tells T.the-type T′.the-laws, (mut-slice-tells (named 0) (κs .0) u64, tt)))
       (λ κs qs bounds a g are. via 𝓤 _ (fst∗ 𝓤 _ (emp 𝓤)) (walk 𝓤 H A W mem run (κs .0) (qs .0) (a .0) (are .0) (a .1 .0 .ptr .0) (a .1 .0 .ptr .1) (a .1 .0 .name) (a .1 .0 .now) C Λ fm known (are .1 .0 .0 .1)))
 
-wake-meets : {M : Type 1} (𝓤 : URA M) (H : Heap 𝓤) (A : Atoms 𝓤) → Given 𝓤 H A → (mem : Memory → SProp 𝓤) (run : Routine → Fun 𝓤) (𝓣 : Tables 𝓤 H) → Triple 𝓤 (𝓣 .C #sampler·step-in-place) (Callee 𝓤 H A mem run)
+wake-meets : {M : Type 1} (𝓤 : URA M) (H : Heap 𝓤) (A : Atoms 𝓤) → Given 𝓤 H A → (mem : Memory → SProp 𝓤) (run : Routine → Fun 𝓤) (𝓣 : Tables 𝓤 H) → Triple 𝓤 (𝓣 .C #run-calls·step-in-place) (Callee 𝓤 H A mem run)
     → Meets 𝓤 H A f.signature (WpFn 𝓤 H (𝓣 .C) (𝓣 .Λ) code.function) (f.spec 𝓤 H A mem run)
 wake-meets 𝓤 H A W mem run 𝓣 known =
     walk-meets 𝓤 H A f.ended stayed W (goes-none 𝓤 H A W 1 (λ _. T.the-row) yes (λ κs x f. refl), (goes-gave-slice 𝓤 H A W 1 0 tt (plain (λ _. u64)), tt)) (f.clauses 𝓤 H A mem run)
@@ -183,4 +183,4 @@ wake-spec 𝓤 H 𝓜 𝓖 𝓡 =
     entered 𝓤 H (tripleOf 𝓤 H (𝓖 .A) f.signature (f.spec 𝓤 H (𝓖 .A) (𝓜 .mem) (𝓡 .run)))
     (tables 𝓤 H 𝓜 𝓡 code.env .C) (tables 𝓤 H 𝓜 𝓡 code.env .Λ) #collector·wake code.function (code.unfolded 𝓤 H 𝓜 𝓡)
     (wake-meets 𝓤 H (𝓖 .A) (givenOf 𝓤 H 𝓜 𝓖) (𝓜 .mem) (𝓡 .run) (tablesOf 𝓤 H 𝓜 (tables 𝓤 H 𝓜 𝓡 code.env))
-    (cited 𝓤 H (Callee 𝓤 H (𝓖 .A) (𝓜 .mem) (𝓡 .run)) 𝓜 𝓡 code.env #sampler·step-in-place callee-def.routine code.calls-sampler·step-in-place (callee-thm.met 𝓤 H 𝓜 𝓖 𝓡)))
+    (cited 𝓤 H (Callee 𝓤 H (𝓖 .A) (𝓜 .mem) (𝓡 .run)) 𝓜 𝓡 code.env #run-calls·step-in-place callee-def.routine code.calls-sampler·step-in-place (callee-thm.met 𝓤 H 𝓜 𝓖 𝓡)))

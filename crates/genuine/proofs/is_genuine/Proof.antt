@@ -15,7 +15,7 @@ use Rattle.state.specs.State.{msIn, planIn, permitted}
 use Rattle.state.specs.declared.Sampler.{Sampler}
 use Rattle.state.proofs.GenuineLaws.{permitted-is}
 use Rattle.writer.specs.Parts.{Written}
-use Rattle.genuine.proofs.SpellableLaws.{ms-long}
+use Rattle.spellable.proofs.SpellableLaws.{ms-long}
 use Rattle.genuine.proofs.TestLaws.{not-spellable, Front, written-front, too-long, reading-refused, reading-accepted, not-permitted, other-plan, same-or-other-run}
 use Rattle.genuine.proofs.is_genuine.Statement.{statement}
 use Rattle.genuine.proofs.is_genuine.Tie as tie

@@ -2,7 +2,7 @@
 use borrow.Author.Needs.{needs}
 use Rattle.state.specs.State.{planIn}
 use Rattle.state.proofs.GenuineLaws.{genuine-is}
-use Rattle.genuine.proofs.SpellableLaws.{writable-in}
+use Rattle.spellable.proofs.SpellableLaws.{writable-in}
 use Rattle.genuine.proofs.write_plan.Statement.{statement}
 use Rattle.genuine.proofs.write_plan.Tie as tie
 

@@ -8,7 +8,7 @@ use lib.ListN.{length, take}
 use Rattle.plan.specs.Answer.{planAnswered}
 use Rattle.state.proofs.StateLaws.{Holds, holds-arrays, accepted-holds, accepted-few}
 use Rattle.window.specs.Walking.{Room}
-use Rattle.window.proofs.WalkLaws.{window-room}
+use Rattle.window.proofs.RangeLaws.{window-room}
 use Rattle.words.specs.Bytes.{windowIn}
 use Rattle.words.proofs.ByteLaws.{window-length, window-front}
 use Rattle.hisowake.proofs.CountLaws.{window-bytes, count-put}

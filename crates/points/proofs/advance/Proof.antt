@@ -7,7 +7,7 @@ use native.Mathlib.Omega.{arith}
 use lib.ListN.{getD}
 use Rattle.numbers.proofs.ListedLaws.{Over, over-none, over-store, over-whole}
 use Rattle.points.specs.Arrays.{numeratorAt, pointAt}
-use Rattle.points.proofs.FillLaws.{point-at-word}
+use Rattle.points.proofs.WordLaws.{point-at-word}
 use Rattle.points.proofs.advance.Statement.{statement}
 use Rattle.points.proofs.advance.Tie as tie
 

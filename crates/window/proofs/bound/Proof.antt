@@ -4,7 +4,7 @@ use mathlib.Core.Path.{_≡_, sym, ap, ap₂, _∙_}
 use Prim.Native.Nat.{_+_, _-_, _*_, _^_, _≤_, _<_}
 use Rattle.points.proofs.ArrayLaws.{base-range}
 use Rattle.window.specs.Counting.{boundOver}
-use Rattle.window.proofs.WalkLaws.{bound-over-none, bound-over-more, bound-over-fits, bound-sobol, bound-halton}
+use Rattle.window.proofs.RangeLaws.{bound-over-none, bound-over-more, bound-over-fits, bound-sobol, bound-halton}
 use Rattle.window.proofs.bound.Statement.{statement}
 use Rattle.window.proofs.bound.Tie as tie
 

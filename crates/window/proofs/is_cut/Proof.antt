@@ -1,7 +1,7 @@
 -- `window::is_cut` meets its contract: one law a return. Assumes nothing.
 use native.Mathlib.Omega.{arith}
 use mathlib.Core.Path.{sym}
-use Rattle.window.proofs.WalkLaws.{cut-none, cut-fine, cut-by}
+use Rattle.window.proofs.RangeLaws.{cut-none, cut-fine, cut-by}
 use Rattle.window.proofs.is_cut.Statement.{statement}
 use Rattle.window.proofs.is_cut.Tie as tie
 

@@ -5,7 +5,7 @@ use mathlib.Core.Bool.{true}
 use Prim.Native.Nat.{ℕ, _-_, _≤_}
 use borrow.Author.Tests.{not-true, not-false}
 use Rattle.window.specs.Counting.{areCuts}
-use Rattle.window.proofs.WalkLaws.{cuts-none, cuts-more, window-long, window-off, window-is}
+use Rattle.window.proofs.RangeLaws.{cuts-none, cuts-more, window-long, window-off, window-is}
 use Rattle.window.proofs.is_window.Statement.{statement}
 use Rattle.window.proofs.is_window.Tie as tie
 

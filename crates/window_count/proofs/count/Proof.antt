@@ -5,10 +5,10 @@ use Prim.Native.Nat.{ℕ}
 use native.Mathlib.Omega.{arith}
 use borrow.Author.Needs.{needs}
 use Rattle.state.specs.State.{genuine}
-use Rattle.sampler.proofs.CaseLaws.{foreign-of, known-of}
-use Rattle.sampler.proofs.PointLaws.{axes-few, known-arrays, known-run}
+use Rattle.calls.proofs.CaseLaws.{foreign-of, known-of}
+use Rattle.calls.proofs.PointLaws.{axes-few, known-arrays, known-run}
 use Rattle.window.specs.Counting.{isWindow}
-use Rattle.window.proofs.WalkLaws.{window-room}
+use Rattle.window.proofs.RangeLaws.{window-room}
 use Rattle.window_count.specs.Call.{counted}
 use Rattle.window_count.proofs.CaseLaws.{count-foreign, count-off, count-done, count-walked, bound-known}
 use Rattle.window_count.proofs.count.Statement.{statement}

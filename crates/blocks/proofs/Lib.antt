@@ -1,0 +1,2 @@
+-- Laws of many points in a row.
+pub mod RowLaws

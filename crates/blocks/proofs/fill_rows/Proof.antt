@@ -1,0 +1,52 @@
+-- `blocks::fill_rows` meets its contract: the columns of the first i axes are written. Assumes nothing.
+use native.Mathlib.Omega.{arith}
+use Prim.Native.Nat.{_-_, _≤_}
+use Rattle.columns.specs.Rows.{Columns}
+use Rattle.columns.proofs.ColumnLaws.{columns-none, columns-more, columns-to}
+use Rattle.points.specs.Arrays.{numeratorFrom}
+use Rattle.blocks.proofs.fill_rows.Statement.{statement}
+use Rattle.blocks.proofs.fill_rows.Tie as tie
+
+abbrev Inv-loop : tie.InvT-loop
+Inv-loop family axes bases directions n lo hi out₀ i₀ out i = (i ≤ axes) × Columns (numeratorFrom family bases directions n) lo hi axes i out₀ out
+
+abbrev μ-loop : tie.MeasureT-loop
+μ-loop family axes bases directions n lo hi out₀ i₀ out i = axes - i
+
+loop-holds : tie.Need-loop-holds Inv-loop μ-loop
+loop-holds c = (omega arith, columns-none _ _ _ _ _)
+
+fill-column-requires : tie.Need-fill-column-requires Inv-loop μ-loop
+fill-column-requires c κs =
+    let s = c .before .before .before .before .before .before in
+    let l = c .before .before .loop in
+    ((s .pre .0, omega arith), (omega arith, omega arith, omega arith, omega (arith, l .inv .1 .same-length)))
+
+add-i : tie.Need-add-i Inv-loop μ-loop
+add-i c = omega (arith, c .before .before .before .before .before .before .before .before .before .pre .0 .few)
+
+loop-less : tie.Need-loop-less Inv-loop μ-loop
+loop-less c = omega arith
+
+loop-again : tie.Need-loop-again Inv-loop μ-loop
+loop-again c = (omega arith, columns-more (c .before .before .before .before .before .loop .inv .1) (c .before .before .fill-column .ensures) (omega arith))
+
+same-length : tie.Need-same-length Inv-loop μ-loop
+same-length c = c .before .loop .inv .1 .same-length
+
+returns : tie.Need-returns Inv-loop μ-loop
+returns c = columns-to (c .before .loop .inv .1) (omega arith)
+
+pub fill-rows-spec : {M : Type 1} → statement M
+fill-rows-spec =
+    tie.close
+    (tie.spec
+    Inv-loop
+    μ-loop
+    loop-holds
+    fill-column-requires
+    add-i
+    loop-less
+    loop-again
+    same-length
+    returns)

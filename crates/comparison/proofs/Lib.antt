@@ -1,0 +1,2 @@
+-- Laws of lists of words that are the same.
+pub mod WordLaws

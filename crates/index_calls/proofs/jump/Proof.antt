@@ -1,0 +1,71 @@
+-- One case law a return; what is written is the point by jumps. Assumes nothing.
+use mathlib.Core.Path.{_≡_, sym, _∙_}
+use mathlib.Core.Bool.{true, false}
+use Prim.Native.Nat.{_-_}
+use native.Mathlib.Omega.{arith}
+use borrow.Author.Needs.{needs}
+use Rattle.state.specs.State.{genuine}
+use Rattle.calls.proofs.CaseLaws.{foreign-of, known-of, jump-foreign, jump-out, jump-no-room, jump-done}
+use Rattle.calls.proofs.PointLaws.{axes-few, point-put, known-arrays}
+use Rattle.index_calls.proofs.jump.Statement.{statement}
+use Rattle.index_calls.proofs.jump.Tie as tie
+
+is-genuine-requires : tie.Need-is-genuine-requires
+is-genuine-requires c κs = tt
+
+foreign : (c : tie.Then1) → genuine (c .before .before .before .args .s) ≡ false
+foreign c = foreign-of _ _ (c .before .is-genuine .ensures) (c .if1 .taken)
+
+known : (c : tie.Else1) → genuine (c .before .before .before .args .s) ≡ true
+known c = known-of _ _ (c .before .is-genuine .ensures) (c .if1 .left)
+
+returns : tie.Need-returns
+returns c = let w = jump-foreign _ _ _ (foreign c) in (sym (w .0), sym (w .1))
+
+returns-2 : tie.Need-returns-2
+returns-2 c =
+    let a = c .before .before .before .before .args in
+    let w = jump-out (a .s) (a .n) (a .out .now) (known (c .before)) (omega arith) in (sym (w .0), sym (w .1))
+
+returns-3 : tie.Need-returns-3
+returns-3 c =
+    let a = c .before .before .before .before .before .args in
+    let w = jump-no-room (a .s) (a .n) (a .out .now) (known (c .before .before)) (omega arith) (omega arith) in (sym (w .0), sym (w .1))
+
+slice-aggregate-point : tie.Need-slice-aggregate-point
+slice-aggregate-point c = search needs
+
+slice-aggregate-point-2 : tie.Need-slice-aggregate-point-2
+slice-aggregate-point-2 c = search needs
+
+point-requires : tie.Need-point-requires
+point-requires c κs = (known-arrays _ (known (c .before .before .before .before .before .before)), omega arith)
+
+put-point-requires : tie.Need-put-point-requires
+put-point-requires c κs = omega (arith, axes-few _ (known (c .before .before .before .before .before .before .before .before)))
+
+same-length : tie.Need-same-length
+same-length c = search needs
+
+returns-4 : tie.Need-returns-4
+returns-4 c =
+    let p = c .before .before in
+    let s = p .before .before .before .before .before .before .before .before .before in
+    let a = s .before .before .before .args in
+    let w = jump-done (a .s) (a .n) (a .out .now) (known s) (omega arith) (omega arith) in
+    (sym (w .0), point-put (a .s) (known s) (a .out .now) _ _ (a .n) (p .before .before .point .ensures) (p .put-point .ensures) ∙ sym (w .1))
+
+pub jump-spec : {M : Type 1} → statement M
+jump-spec =
+    tie.close
+    (tie.spec
+    is-genuine-requires
+    returns
+    returns-2
+    returns-3
+    slice-aggregate-point
+    slice-aggregate-point-2
+    point-requires
+    put-point-requires
+    same-length
+    returns-4)

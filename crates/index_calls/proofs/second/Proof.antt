@@ -1,0 +1,92 @@
+-- One case law a return; the numerator is below 2^40, so that 86,400 times it fits a word. Assumes nothing.
+use mathlib.Core.Path.{_≡_, sym, _∙_}
+use mathlib.Core.Bool.{true, false}
+use Prim.Native.Nat.{_-_, _^_, _<_}
+use native.Mathlib.Omega.{arith}
+use borrow.Author.Needs.{needs}
+use Rattle.state.specs.State.{genuine}
+use Rattle.points.specs.Point.{numeratorOf, denominatorOf, slotOf}
+use Rattle.state.specs.State.{planIn}
+use Rattle.calls.proofs.CaseLaws.{foreign-of, known-of, second-foreign, second-out, second-done}
+use Rattle.calls.proofs.PointLaws.{axes-few, known-arrays, known-numerator, known-denominator, fraction-small}
+use Rattle.index_calls.proofs.second.Statement.{statement}
+use Rattle.index_calls.proofs.second.Tie as tie
+
+is-genuine-requires : tie.Need-is-genuine-requires
+is-genuine-requires c κs = tt
+
+foreign : (c : tie.Then1) → genuine (c .before .before .args .s) ≡ false
+foreign c = foreign-of _ _ (c .before .is-genuine .ensures) (c .if1 .taken)
+
+known : (c : tie.Else1) → genuine (c .before .before .args .s) ≡ true
+known c = known-of _ _ (c .before .is-genuine .ensures) (c .if1 .left)
+
+returns : tie.Need-returns
+returns c = sym (second-foreign _ _ (foreign c))
+
+returns-2 : tie.Need-returns-2
+returns-2 c = sym (second-out _ _ (known (c .before)) (omega arith))
+
+slice-aggregate-numerator : tie.Need-slice-aggregate-numerator
+slice-aggregate-numerator c = search needs
+
+slice-aggregate-numerator-2 : tie.Need-slice-aggregate-numerator-2
+slice-aggregate-numerator-2 c = search needs
+
+numerator-requires : tie.Need-numerator-requires
+numerator-requires c κs =
+    let s = c .before .before .before .before .before in
+    (known-arrays _ (known s), omega arith, omega (arith, axes-few _ (known s)))
+
+slice-aggregate-denominator : tie.Need-slice-aggregate-denominator
+slice-aggregate-denominator c = search needs
+
+slice-aggregate-denominator-2 : tie.Need-slice-aggregate-denominator-2
+slice-aggregate-denominator-2 c = search needs
+
+denominator-requires : tie.Need-denominator-requires
+denominator-requires c κs =
+    let s = c .before .before .before .before .before .before .before .before in
+    (known-arrays _ (known s), omega (arith, axes-few _ (known s)))
+
+-- the numerator and the denominator that the code has are the plan's
+fraction : (c : tie.After-denominator) →
+    let a = c .before .before .before .before .before .before .before .before .before .before .before .args in
+    (c .before .before .before .numerator .result ≡ numeratorOf (planIn (a .s)) (a .n) 0) × (c .denominator .result ≡ denominatorOf (planIn (a .s)) 0)
+    × (numeratorOf (planIn (a .s)) (a .n) 0 < denominatorOf (planIn (a .s)) 0) × (denominatorOf (planIn (a .s)) 0 < 2 ^ 40)
+fraction c =
+    let s = c .before .before .before .before .before .before .before .before .before in
+    let a = s .before .before .args in
+    let low : 0 < a .s .axes = axes-few (a .s) (known s) .0 in
+    let f = fraction-small (a .s) (known s) 0 low (a .n) in (
+      c .before .before .before .numerator .ensures ∙ known-numerator (a .s) (known s) 0 low (a .n),
+      c .denominator .ensures ∙ known-denominator (a .s) (known s) 0 low (a .n),
+      f .0,
+      f .1,
+    )
+
+second-of-requires : tie.Need-second-of-requires
+second-of-requires c κs = omega (arith, fraction c)
+
+returns-3 : tie.Need-returns-3
+unfolding slotOf
+returns-3 c =
+    let s = c .before .before .before .before .before .before .before .before .before .before in
+    let f = fraction (c .before) in
+    rw (c .second-of .ensures, f .0, f .1) (sym (second-done _ _ (known s) (omega arith)))
+
+pub second-spec : {M : Type 1} → statement M
+second-spec =
+    tie.close
+    (tie.spec
+    is-genuine-requires
+    returns
+    returns-2
+    slice-aggregate-numerator
+    slice-aggregate-numerator-2
+    numerator-requires
+    slice-aggregate-denominator
+    slice-aggregate-denominator-2
+    denominator-requires
+    second-of-requires
+    returns-3)

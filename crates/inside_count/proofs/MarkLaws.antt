@@ -1,0 +1,99 @@
+-- The walk over a run held in arrays: what an axis leaves of the flags, and what parts of a run add up to. Assumes nothing.
+use mathlib.Core.Path.{_≡_, refl, sym, ap, _∙_}
+use mathlib.Core.Bool.{Bool, true, false, _&&_}
+use mathlib.Core.List.{List}
+use Prim.Native.Nat.{ℕ, zero, suc, _+_, _-_, _*_, _/_, _≤_, _<_}
+use native.Mathlib.Nat.{add-assoc, le-refl, add-mul, le-div-iff-mul-le}
+use native.Mathlib.Numerals.{add-one}
+use native.Mathlib.Omega.{arith}
+use lib.Dec.{ltb}
+use lib.ListN.{getD, replicate, getD-replicate}
+use borrow.Author.Tests.{lt-ltb, le-ltb}
+use Rattle.numbers.specs.Count.{bit, count}
+use Rattle.numbers.specs.Cut.{belowCut}
+use Rattle.numbers.proofs.Cases.{lt-iff}
+use Rattle.numbers.proofs.CountLaws.{count-ext, count-parts}
+use Rattle.columns.specs.Rows.{Column}
+use Rattle.points.specs.Arrays.{numeratorAt, numeratorFrom, denominatorAt}
+use Rattle.window.specs.Counting.{uOf, qOf}
+use Rattle.window.specs.Walking.{insideBy, insideFrom}
+use Rattle.inside_count.specs.Marking.{cutLimit, keepIf, Flags, marked, Marked}
+
+-- ---- flags
+
+-- below the limit is below the cut
+limit-cut : (x d u q : ℕ) → 1 ≤ q → ltb x (cutLimit u q d) ≡ belowCut x d u q
+unfolding cutLimit belowCut
+limit-cut x d u q pos = lt-iff x ((u * d + (q - 1)) / q) (x * q) (u * d) (λ h. there h) (λ h. back h)
+  where
+    there : x < (u * d + (q - 1)) / q → x * q < u * d
+    there h = omega (arith, le-div-iff-mul-le {k = q} {x = x + 1} {y = u * d + (q - 1)} pos .0 (omega arith), add-mul x 1 q)
+
+    back : x * q < u * d → x < (u * d + (q - 1)) / q
+    back h = omega (arith, le-div-iff-mul-le {k = q} {x = x + 1} {y = u * d + (q - 1)} pos .1 (omega (arith, add-mul x 1 q)))
+
+pub keep-yes : (a b f : ℕ) → a < b → f ≡ keepIf (ltb a b) f
+unfolding keepIf
+keep-yes a b f h = rw (lt-ltb a b h) refl
+
+pub keep-no : (a b f : ℕ) → b ≤ a → 0 ≡ keepIf (ltb a b) f
+unfolding keepIf
+keep-no a b f h = rw (le-ltb a b h) refl
+
+keep-bit : (a b : Bool) → keepIf b (bit a) ≡ bit (a && b)
+unfolding keepIf
+keep-bit true true = refl
+keep-bit true false = refl
+keep-bit false true = refl
+keep-bit false false = refl
+
+module _ (family : ℕ) (bases vs w : List ℕ) (n : ℕ) where
+  -- no axis yet
+  pub flags-none : (m : ℕ) → m ≤ 1024 → Flags (insideFrom family bases vs w 0 n) m (replicate 1024 1)
+  unfolding insideFrom insideBy
+  flags-none m h = record { at = λ i l. getD-replicate 1024 i 1 0 (omega arith) }
+
+  -- what a column holds
+  column-at : (s m : ℕ) (x₀ x : List ℕ) → Column (numeratorFrom family bases vs n s) 0 m 1 0 x₀ x → (i : ℕ) → i < m → getD x i 0 ≡ numeratorAt family bases vs (n + i) s
+  unfolding numeratorFrom
+  column-at s m x₀ x c i h = ap (λ (y : ℕ). getD x y 0) {x = i} {y = i * 1 + 0} (omega arith) ∙ c .wrote i (omega arith) h
+
+  -- one axis more
+  pub flags-more : (s m limit : ℕ) (x₀ x l new : List ℕ) → Flags (insideFrom family bases vs w s n) m l
+      → Column (numeratorFrom family bases vs n s) 0 m 1 0 x₀ x → Marked limit m x l new
+      → limit ≡ cutLimit (uOf w s) (qOf w s) (denominatorAt family bases s) → 1 ≤ qOf w s → Flags (insideFrom family bases vs w (s + 1) n) m new
+  unfolding insideFrom insideBy marked
+  flags-more s m limit x₀ x l new f c k e pos = record { at = one }
+    where
+      one : (i : ℕ) → i < m → getD new i 0 ≡ bit (insideBy family bases vs w (n + i) (s + 1))
+      one i h =
+          k .at i h
+          ∙ rw (column-at s m x₀ x c i h, f .at i h, e, limit-cut (numeratorAt family bases vs (n + i) s) (denominatorAt family bases s) (uOf w s) (qOf w s) pos, add-one s)
+          (keep-bit (insideBy family bases vs w (n + i) s) (belowCut (numeratorAt family bases vs (n + i) s) (denominatorAt family bases s) (uOf w s) (qOf w s)))
+
+  -- ---- parts of a run
+
+  pub parts-join : (s i m : ℕ) → count (insideFrom family bases vs w s n) (i + m) ≡ count (insideFrom family bases vs w s n) i + count (insideFrom family bases vs w s (n + i)) m
+  unfolding insideFrom
+  parts-join s i m =
+      count-parts (insideFrom family bases vs w s n) i m
+      ∙ ap (λ (k : ℕ). count (insideFrom family bases vs w s n) i + k)
+      (count-ext (λ j. insideFrom family bases vs w s n (i + j)) (insideFrom family bases vs w s (n + i)) m (λ j l. ap (λ (k : ℕ). insideBy family bases vs w k s) (sym (add-assoc n i j))))
+
+pub count-none : (p : ℕ → Bool) → 0 ≡ count p 0
+unfolding count
+count-none p = refl
+
+-- one flag more
+pub count-more : (p : ℕ → Bool) (i : ℕ) → count p (i + 1) ≡ count p i + bit (p i)
+unfolding count
+count-more p i = rw add-one refl
+
+pub count-le : (p : ℕ → Bool) (n : ℕ) → count p n ≤ n
+unfolding count
+count-le p zero = omega arith
+count-le p (suc n) = omega (arith, count-le p n, bit-le (p n))
+  where
+    bit-le : (b : Bool) → bit b ≤ 1
+    bit-le true = le-refl 1
+    bit-le false = omega arith

@@ -1,0 +1,56 @@
+-- One case law a return; the state opened is the one made of the same plan. Assumes nothing.
+use mathlib.Core.Path.{_≡_, sym, ap, _∙_}
+use mathlib.Core.Bool.{true, false}
+use native.Mathlib.Omega.{arith}
+use Rattle.state.specs.State.{genuine}
+use Rattle.calls.specs.Calls.{moved}
+use Rattle.calls.proofs.CaseLaws.{foreign-of, known-of, open-foreign, open-out, open-done}
+use Rattle.plan_calls.proofs.open.Statement.{statement}
+use Rattle.plan_calls.proofs.open.Tie as tie
+
+is-genuine-requires : tie.Need-is-genuine-requires
+is-genuine-requires c κs = tt
+
+foreign : (c : tie.Then1) → genuine (c .before .before .args .s) ≡ false
+foreign c = foreign-of _ _ (c .before .is-genuine .ensures) (c .if1 .taken)
+
+known : (c : tie.Else1) → genuine (c .before .before .args .s) ≡ true
+known c = known-of _ _ (c .before .is-genuine .ensures) (c .if1 .left)
+
+refused-requires : tie.Need-refused-requires
+refused-requires c κs = tt
+
+refused-requires-2 : tie.Need-refused-requires-2
+refused-requires-2 c κs = tt
+
+refused-requires-3 : tie.Need-refused-requires-3
+refused-requires-3 c κs = tt
+
+returns : tie.Need-returns
+returns c = c .refused .ensures ∙ sym (open-foreign _ _ _ (foreign (c .before)))
+
+returns-2 : tie.Need-returns-2
+returns-2 c = c .refused2 .ensures ∙ sym (open-out _ _ _ (known (c .before .before)) (omega arith))
+
+returns-3 : tie.Need-returns-3
+returns-3 c = c .refused3 .ensures ∙ sym (open-out _ _ _ (known (c .before .before .before)) (omega arith))
+
+with-run-requires : tie.Need-with-run-requires
+with-run-requires c κs = (known (c .before .before), omega arith)
+
+returns-4 : tie.Need-returns-4
+returns-4 c = ap (moved 0) (c .with-run .ensures) ∙ sym (open-done _ _ _ (known (c .before .before .before)) (omega arith))
+
+pub open-spec : {M : Type 1} → statement M
+open-spec =
+    tie.close
+    (tie.spec
+    is-genuine-requires
+    refused-requires
+    returns
+    refused-requires-2
+    returns-2
+    refused-requires-3
+    returns-3
+    with-run-requires
+    returns-4)

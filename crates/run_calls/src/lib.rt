@@ -1,0 +1,97 @@
+// The calls that serve a run's points: one at a time, as many as fit, and one with the state stored in place.
+use calls::Blocked;
+use calls::Moved;
+use plan::refusal;
+use state::Sampler;
+ghost use mathlib.Core.Path.{_≡_};
+ghost use Prim.Native.Nat.{_/_, _≤_, min};
+ghost use Rattle.calls.specs.Calls.{blocked, stepSpec, stepBuf, blockSpec, blockBuf};
+
+// Writes the run's next point to the front of `out`, and moves on by one.
+pub fn step(s: Sampler, out: &mut [u64]) -> Moved
+    ensures { λ r. ⌜ (r ≡ stepSpec s (now (out .entry))) × (now (out .exit) ≡ stepBuf s (now (out .entry))) ⌝ }
+{
+    if !genuine::is_genuine(s) {
+        return calls::refused(refusal::INVALID_STATE, s);
+    }
+    if s.count <= s.taken {
+        return calls::refused(refusal::EXHAUSTED, s);
+    }
+    let axes = s.axes;
+    if out.len() < axes {
+        return calls::refused(refusal::BUFFER_TOO_SMALL, s);
+    }
+    let x = s.numerators;
+    points::put_point(out, 0, x, axes);
+    let t = state::advanced(s);
+    Moved { code: 0, state: t }
+}
+
+// A block that is turned down: its number, no points, and the state as given.
+fn no_block(code: u64, s: Sampler) -> Blocked
+    ensures { λ r. ⌜ r ≡ blocked code 0 s ⌝ }
+{
+    Blocked {
+        code,
+        points: 0,
+        state: s,
+    }
+}
+
+// How many points a block takes: as many as are left and fit whole.
+fn block_size(left: u64, room: usize, axes: usize) -> usize
+    requires { ⌜ 1 ≤ axes ⌝ }
+    ensures { λ r. ⌜ r ≡ min left (room / axes) ⌝ }
+{
+    let whole = room / axes;
+    if left < (whole as u64) {
+        left as usize
+    } else {
+        whole
+    }
+}
+
+// Writes as many of the run's points as are left and fit whole, and moves on by that many.
+pub fn block(s: Sampler, out: &mut [u64]) -> Blocked
+    ensures { λ r. ⌜ (r ≡ blockSpec s (now (out .entry))) × (now (out .exit) ≡ blockBuf s (now (out .entry))) ⌝ }
+{
+    if !genuine::is_genuine(s) {
+        return no_block(refusal::INVALID_STATE, s);
+    }
+    if s.taken >= s.count {
+        return no_block(refusal::EXHAUSTED, s);
+    }
+    let axes = s.axes;
+    if out.len() < axes {
+        return no_block(refusal::BUFFER_TOO_SMALL, s);
+    }
+    let bases = s.bases;
+    let directions = s.directions;
+    let k = block_size(s.count - s.taken, out.len(), axes);
+    blocks::fill(
+        out,
+        s.family,
+        axes,
+        &bases,
+        &directions,
+        s.start + s.taken,
+        k,
+    );
+    let t = state::with_run(s, s.start, s.count, s.taken + (k as u64));
+    Blocked {
+        code: 0,
+        points: k as u64,
+        state: t,
+    }
+}
+
+// Steps a sampler in place: the same as `step`, its state stored where the sampler is.
+pub fn step_in_place(s: &mut Sampler, out: &mut [u64]) -> u64
+    ensures { λ r. ⌜ (r ≡ stepSpec (now (s .entry)) (now (out .entry)) .code)
+        × (now (s .exit) ≡ stepSpec (now (s .entry)) (now (out .entry)) .state)
+        × (now (out .exit) ≡ stepBuf (now (s .entry)) (now (out .entry))) ⌝ }
+{
+    let r = step(*s, out);
+    *s = r.state;
+    r.code
+}

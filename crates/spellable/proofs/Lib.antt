@@ -1,0 +1,2 @@
+-- Laws of the arrays that can be spelled.
+pub mod SpellableLaws
