@@ -69,7 +69,7 @@ pub fn fill(
 {
     let mut i = 0;
     while i < k {
-        let end = columns::least(i + 2048, k);
+        let end = columns::least(i + 4096, k);
         fill_rows(family, axes, bases, directions, n, i, end, out);
         i = end;
     }
