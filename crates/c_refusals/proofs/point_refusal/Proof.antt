@@ -1,9 +1,9 @@
 -- One law an answer. Assumes nothing.
 use native.Mathlib.Omega.{arith}
 use borrow.Author.Needs.{needs}
-use Rattle.hisowake.proofs.CallLaws.{point-out, point-no-room, point-none}
-use Rattle.hisowake.proofs.point_refusal.Statement.{statement}
-use Rattle.hisowake.proofs.point_refusal.Tie as tie
+use Rattle.c_refusals.proofs.RefusalLaws.{point-out, point-no-room, point-none}
+use Rattle.c_refusals.proofs.point_refusal.Statement.{statement}
+use Rattle.c_refusals.proofs.point_refusal.Tie as tie
 
 returns : tie.Need-returns
 returns c = let a = c .before .args in point-out (a .index) (a .axes) (a .room) (omega arith)

@@ -1,8 +1,8 @@
 -- One law an answer. Assumes nothing.
 use native.Mathlib.Omega.{arith}
-use Rattle.hisowake.proofs.CountLaws.{refusal-out, refusal-off, refusal-room, refusal-none}
-use Rattle.hisowake.proofs.count_refusal.Statement.{statement}
-use Rattle.hisowake.proofs.count_refusal.Tie as tie
+use Rattle.c_refusals.proofs.RefusalLaws.{refusal-out, refusal-off, refusal-room, refusal-none}
+use Rattle.c_refusals.proofs.count_refusal.Statement.{statement}
+use Rattle.c_refusals.proofs.count_refusal.Tie as tie
 
 returns : tie.Need-returns
 returns c = let a = c .before .args in refusal-out (a .start) (a .count) (a .window) (a .room) (omega arith)
