@@ -1,4 +1,4 @@
--- `blocks::fill` meets its contract: the first i rows are written, and rows of numerators are the points. Assumes nothing.
+-- `blocks::fill_plainly` meets its contract: the first i rows are written, and rows of numerators are the points. Assumes nothing.
 use mathlib.Core.Path.{ap, _∙_}
 use mathlib.Core.List.{List, _++_}
 use native.Mathlib.Nat.{mul-le-mul-right}
@@ -9,8 +9,8 @@ use Rattle.columns.specs.Rows.{Columns}
 use Rattle.columns.proofs.ColumnLaws.{columns-empty, columns-join, columns-rows, columns-list}
 use Rattle.points.specs.Arrays.{numeratorFrom}
 use Rattle.blocks.proofs.RowLaws.{points-at-rows}
-use Rattle.blocks.proofs.fill.Statement.{statement}
-use Rattle.blocks.proofs.fill.Tie as tie
+use Rattle.blocks.proofs.fill_plainly.Statement.{statement}
+use Rattle.blocks.proofs.fill_plainly.Tie as tie
 
 abbrev Inv-loop : tie.InvT-loop
 Inv-loop out₀ family axes bases directions n k i₀ out i = (i ≤ k) × Columns (numeratorFrom family bases directions n) 0 i axes axes out₀ out
@@ -57,8 +57,8 @@ returns c =
     columns-list (numeratorFrom (a .family) (a .bases .now) (a .directions .now) (a .n)) (a .axes) (a .k) (a .out .now) (l .out) (columns-rows (l .inv .1) (omega arith)) (omega arith) (omega arith)
     ∙ ap (λ (x : List ℕ). x ++ drop (a .k * a .axes) (a .out .now)) (points-at-rows (a .family) (a .axes) (a .bases .now) (a .directions .now) (a .n) (a .k))
 
-pub fill-spec : {M : Type 1} → statement M
-fill-spec =
+pub fill-plainly-spec : {M : Type 1} → statement M
+fill-plainly-spec =
     tie.close
     (tie.spec
     Inv-loop
