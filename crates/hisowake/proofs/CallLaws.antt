@@ -19,8 +19,8 @@ use Rattle.points.proofs.PointLaws.{point-of-length}
 use Rattle.writer.proofs.RoundTrip.{read-accepted}
 use Rattle.state.proofs.StateLaws.{Holds, holds-point, accepted-holds}
 use Rattle.c_refusals.specs.Refusals.{pointRefusal}
-use Rattle.words.specs.Bytes.{wordBytes}
-use Rattle.words.proofs.ByteLaws.{length-words}
+use Rattle.big_endian.specs.Bytes.{wordBytes}
+use Rattle.big_endian.proofs.ByteLaws.{length-words}
 use Rattle.hisowake.specs.Calls.{pointCodeBy, pointCode, pointBytesBy, pointBytes}
 
 -- ---- the plan that is read

@@ -20,8 +20,8 @@ use Rattle.window.specs.Counting.{isWindow}
 use Rattle.window.specs.Walking.{insideFrom, boundBy}
 use Rattle.window.proofs.PlanLaws.{count-held, bound-held}
 use Rattle.c_refusals.specs.Refusals.{countRefusal}
-use Rattle.words.specs.Bytes.{wordBytes, windowIn}
-use Rattle.words.proofs.ByteLaws.{length-words}
+use Rattle.big_endian.specs.Bytes.{wordBytes, windowIn}
+use Rattle.big_endian.proofs.ByteLaws.{length-words}
 use Rattle.hisowake.specs.Calls.{isWindowBytes, windowRefusal, answersOf, countCodeBy, countCode, countBytesBy, countBytes}
 
 -- ---- when a window is turned down

@@ -12,7 +12,7 @@ use Rattle.points.specs.Point.{axisCount, pointOf}
 use Rattle.state.specs.State.{pick}
 use Rattle.window.specs.Counting.{insideCount, boundOf, isWindow}
 use Rattle.c_refusals.specs.Refusals.{pointRefusal, countRefusal}
-use Rattle.words.specs.Bytes.{wordBytes, windowIn}
+use Rattle.big_endian.specs.Bytes.{wordBytes, windowIn}
 
 -- ---- point: the reading's numbers, 11, 13
 

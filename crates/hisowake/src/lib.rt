@@ -8,7 +8,7 @@ ghost use Prim.Native.Nat.{_+_, _*_, _^_, _<_, _≤_};
 ghost use lib.ListN.{length, drop};
 ghost use Rattle.plan.specs.Answer.{planAnswered, Accepted};
 ghost use Rattle.points.specs.Point.{pointOf};
-ghost use Rattle.words.specs.Bytes.{wordBytes};
+ghost use Rattle.big_endian.specs.Bytes.{wordBytes};
 ghost use Rattle.hisowake.specs.Calls.{pointCode, pointBytes, isWindowBytes, windowRefusal, answersOf, countCode, countBytes};
 
 // Writes the point of index `n` of a plan that the reader accepted.
@@ -20,7 +20,7 @@ fn put_point(out: &mut [u8], a: PlanRead, n: u64)
     let bases = a.bases;
     let directions = state::plan_directions(a);
     let x = points::point(a.family, axes, &bases, &directions, n);
-    words::put_words(out, &x[..axes]);
+    big_endian::put_words(out, &x[..axes]);
 }
 
 // Writes the point of any index to the front of `out`: 8 bytes an axis, most significant first. Answers 0 or the refusal's number.
@@ -48,7 +48,7 @@ fn window_refusal(bytes: &[u8], axes: usize) -> u64
     if bytes.len() != 8 * axes {
         return refusal::BAD_WINDOW;
     }
-    let w = words::window_numbers(bytes, axes);
+    let w = big_endian::window_numbers(bytes, axes);
     let end = 2 * axes;
     if window::is_window(&w[..end], axes) {
         return 0;
@@ -64,7 +64,7 @@ fn put_count(out: &mut [u8], a: PlanRead, start: u64, count: u64, window: &[u8])
     let axes = a.axes;
     let bases = a.bases;
     let directions = state::plan_directions(a);
-    let w = words::window_numbers(window, axes);
+    let w = big_endian::window_numbers(window, axes);
     let end = 2 * axes;
     let inside = inside_count::count_inside(
         a.family,
@@ -76,7 +76,7 @@ fn put_count(out: &mut [u8], a: PlanRead, start: u64, count: u64, window: &[u8])
         &w[..end],
     );
     let bound = window::bound(a.family, axes, &bases, &directions, count);
-    words::put_words(out, &[inside, bound]);
+    big_endian::put_words(out, &[inside, bound]);
 }
 
 // Writes S, how many points of the run are inside the window, and the bound of demand 3 to the front of `out`: 8 bytes each, most significant first.

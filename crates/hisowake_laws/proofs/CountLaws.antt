@@ -26,7 +26,7 @@ use Rattle.window_count.specs.Call.{countSpec}
 use Rattle.window_count.proofs.CaseLaws.{count-off}
 use Rattle.window_count.proofs.Demand3.{count-left}
 use Rattle.c_refusals.specs.Refusals.{countRefusal}
-use Rattle.words.specs.Bytes.{wordBytes, windowIn}
+use Rattle.big_endian.specs.Bytes.{wordBytes, windowIn}
 use Rattle.hisowake.specs.Calls.{isWindowBytes, windowRefusal, answersOf, countCodeBy, countCode, countBytesBy, countBytes}
 
 -- the first number of the reading, the opening, the count and the room that is not 0

@@ -1,4 +1,4 @@
--- `words::window_numbers` meets its contract: the first k numbers are stored. Assumes nothing.
+-- `big_endian::window_numbers` meets its contract: the first k numbers are stored. Assumes nothing.
 use mathlib.Core.Path.{_≡_, ap, _∙_}
 use mathlib.Core.List.{List}
 use Prim.Native.Nat.{ℕ, _-_, _*_, _≤_}
@@ -6,9 +6,9 @@ use native.Mathlib.Omega.{arith}
 use lib.ListN.{set, replicate}
 use Rattle.numbers.specs.Listed.{listed, padded}
 use Rattle.numbers.proofs.ListedLaws.{listed-store, padded-none}
-use Rattle.words.specs.Bytes.{quadAt, windowIn}
-use Rattle.words.proofs.window_numbers.Statement.{statement}
-use Rattle.words.proofs.window_numbers.Tie as tie
+use Rattle.big_endian.specs.Bytes.{quadAt, windowIn}
+use Rattle.big_endian.proofs.window_numbers.Statement.{statement}
+use Rattle.big_endian.proofs.window_numbers.Tie as tie
 
 abbrev Inv-loop : tie.InvT-loop
 Inv-loop bytes axes w₀ k₀ w k = (k ≤ 2 * axes) × (w ≡ padded 12 (listed (quadAt bytes) k))

@@ -4,7 +4,7 @@ ghost use Prim.Native.Nat.{_+_, _*_, _<_, _≤_};
 ghost use lib.ListN.{length};
 ghost use Rattle.numbers.specs.Listed.{padded};
 ghost use Rattle.bits.specs.Stream.{overwrite};
-ghost use Rattle.words.specs.Bytes.{bytesOf, wordBytes, quadAt, windowIn};
+ghost use Rattle.big_endian.specs.Bytes.{bytesOf, wordBytes, quadAt, windowIn};
 
 // Writes the 8 bytes of `x` to `out` from `at` on, most significant first.
 fn put_word(out: &mut [u8], at: usize, x: u64)

@@ -6,10 +6,10 @@ use lib.ListN.{length, take, length-set}
 use lib.Seq.{take-all}
 use Rattle.bits.specs.Stream.{overwrite}
 use Rattle.bits.proofs.OverwriteLaws.{over-zero, over-next}
-use Rattle.words.specs.Bytes.{bytesOf}
-use Rattle.words.proofs.ByteLaws.{length-bytes, byte-shifted}
-use Rattle.words.proofs.put_word.Statement.{statement}
-use Rattle.words.proofs.put_word.Tie as tie
+use Rattle.big_endian.specs.Bytes.{bytesOf}
+use Rattle.big_endian.proofs.ByteLaws.{length-bytes, byte-shifted}
+use Rattle.big_endian.proofs.put_word.Statement.{statement}
+use Rattle.big_endian.proofs.put_word.Tie as tie
 
 abbrev Inv-loop : tie.InvT-loop
 Inv-loop out₀ at x i₀ out i = (i ≤ 8) × (length out ≡ length out₀) × (out ≡ overwrite out₀ at (take i (bytesOf 8 x)))

@@ -1,11 +1,11 @@
--- `words::quad` meets its contract: each byte is below 256, so that no sum passes 2^32. Assumes nothing.
+-- `big_endian::quad` meets its contract: each byte is below 256, so that no sum passes 2^32. Assumes nothing.
 use mathlib.Core.Path.{refl}
 use Prim.Native.Nat.{_+_, _*_}
 use native.Mathlib.Omega.{arith}
 use borrow.Author.Needs.{needs}
-use Rattle.words.specs.Bytes.{quadAt}
-use Rattle.words.proofs.quad.Statement.{statement}
-use Rattle.words.proofs.quad.Tie as tie
+use Rattle.big_endian.specs.Bytes.{quadAt}
+use Rattle.big_endian.proofs.quad.Statement.{statement}
+use Rattle.big_endian.proofs.quad.Tie as tie
 
 mul-high : tie.Need-mul-high
 mul-high c = search needs

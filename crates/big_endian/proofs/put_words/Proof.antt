@@ -5,10 +5,10 @@ use native.Mathlib.Omega.{arith}
 use lib.ListN.{length, take}
 use lib.Seq.{take-all}
 use Rattle.bits.specs.Stream.{overwrite}
-use Rattle.words.specs.Bytes.{wordBytes}
-use Rattle.words.proofs.ByteLaws.{words-none, words-next}
-use Rattle.words.proofs.put_words.Statement.{statement}
-use Rattle.words.proofs.put_words.Tie as tie
+use Rattle.big_endian.specs.Bytes.{wordBytes}
+use Rattle.big_endian.proofs.ByteLaws.{words-none, words-next}
+use Rattle.big_endian.proofs.put_words.Statement.{statement}
+use Rattle.big_endian.proofs.put_words.Tie as tie
 
 abbrev Inv-loop : tie.InvT-loop
 Inv-loop out₀ words i₀ out i = (i ≤ length words) × (length out ≡ length out₀) × (out ≡ overwrite out₀ 0 (wordBytes (take i words)))

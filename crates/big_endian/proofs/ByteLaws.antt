@@ -13,7 +13,7 @@ use Rattle.numbers.proofs.ListedLaws.{listed-length, padded-take}
 use Rattle.bits.specs.Stream.{toBits, bitsOf, overwrite}
 use Rattle.bits.proofs.StreamLaws.{to-bits-low, to-bits-split}
 use Rattle.bits.proofs.OverwriteLaws.{over-append, over-zero}
-use Rattle.words.specs.Bytes.{bytesOf, wordBytes, quadAt, windowIn}
+use Rattle.big_endian.specs.Bytes.{bytesOf, wordBytes, quadAt, windowIn}
 
 pub length-bytes : (k n : ℕ) → length (bytesOf k n) ≡ k
 unfolding bytesOf
