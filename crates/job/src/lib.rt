@@ -135,15 +135,8 @@ pub fn plan_line(j: Job, line: &[u8], from: usize) -> Job
 
 // ---- run START COUNT
 
-// The number that a word of a line spells.
-pub fn number(line: &[u8], start: usize, end: usize) -> Number
-    requires { ⌜ (start ≤ end) × (end ≤ length (now line)) ⌝ }
-{
-    words::decimal(&line[start..end])
-}
-
-// Says what was expected of a number, and gets no further.
-pub fn number_error(j: Job, n: Number, name: &[u8]) -> Job {
+// Says what was expected of a number.
+fn number_error(j: Job, n: Number, name: &[u8]) -> Job {
     let next = fail(j);
     say(b"expected ");
     say(name);
@@ -172,6 +165,59 @@ fn open(j: Job, start: u64, count: u64) -> Job {
     }
 }
 
+// Two numbers that a line has, or the job with the error that it has none.
+pub struct Two {
+    pub job: Job,
+    pub is_good: bool,
+    pub first: u64,
+    pub second: u64,
+}
+
+fn not_two(j: Job) -> Two {
+    Two {
+        job: j,
+        is_good: false,
+        first: 0,
+        second: 0,
+    }
+}
+
+// The two numbers from `from` on. `shape` says what the line should be, `first` and `second` what the numbers are called.
+pub fn two_numbers(
+    j: Job,
+    line: &[u8],
+    from: usize,
+    shape: &[u8],
+    first: &[u8],
+    second: &[u8],
+) -> Two
+    requires { ⌜ from ≤ length (now line) ⌝ }
+{
+    if words::count(line, from) != 2 {
+        return not_two(error(j, shape));
+    }
+    let w = words::find(line, from);
+    let a = w.start;
+    let e = w.end;
+    let one = words::decimal(&line[a..e]);
+    let Number::Value(m) = one else {
+        return not_two(number_error(j, one, first));
+    };
+    let v = words::find(line, e);
+    let b = v.start;
+    let f = v.end;
+    let two = words::decimal(&line[b..f]);
+    let Number::Value(n) = two else {
+        return not_two(number_error(j, two, second));
+    };
+    Two {
+        job: j,
+        is_good: true,
+        first: m,
+        second: n,
+    }
+}
+
 // A line `run START COUNT`, from after its first word on. In error, it leaves no run.
 pub fn run_line(j: Job, line: &[u8], from: usize) -> Job
     requires { ⌜ from ≤ length (now line) ⌝ }
@@ -181,22 +227,16 @@ pub fn run_line(j: Job, line: &[u8], from: usize) -> Job
     if !j.has_plan {
         return error(none, b"expected a plan before the run");
     }
-    if words::count(line, from) != 2 {
-        return error(none, b"expected run START COUNT, two decimal numbers");
+    let t = two_numbers(
+        none,
+        line,
+        from,
+        b"expected run START COUNT, two decimal numbers",
+        b"START",
+        b"COUNT",
+    );
+    if !t.is_good {
+        return t.job;
     }
-    let w = words::find(line, from);
-    let a = w.start;
-    let e = w.end;
-    let v = words::find(line, e);
-    let b = v.start;
-    let f = v.end;
-    let start = number(line, a, e);
-    let Number::Value(first) = start else {
-        return number_error(none, start, b"START");
-    };
-    let count = number(line, b, f);
-    let Number::Value(many) = count else {
-        return number_error(none, count, b"COUNT");
-    };
-    open(none, first, many)
+    open(none, t.first, t.second)
 }
