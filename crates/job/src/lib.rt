@@ -7,7 +7,7 @@ pub use lines::Reader;
 pub use lines::read_line;
 pub use lines::start;
 pub use lines::text_end;
-pub use report::refusal;
+use report::refusal;
 pub use report::say;
 pub use report::say_number;
 use state::Sampler;

@@ -1,5 +1,5 @@
 -- The limit by parts: the bound's whole part, and what its rest gives. Assumes nothing.
-use mathlib.Core.Path.{_≡_, refl, ap, _∙_}
+use mathlib.Core.Path.{_≡_, ap, _∙_}
 use mathlib.Core.Logic.{⊎-elim}
 use Prim.Native.Nat.{ℕ, _+_, _*_, _-_, _/_, _%_, _^_, _<_, _≤_}
 use native.Mathlib.Nat.{mul-add-div-right, div-add-mod', mod-lt, div-lt-iff-lt-mul, mul-le-mul-left}

@@ -1,6 +1,6 @@
 -- The place stays in the word. Assumes nothing.
 use borrow.Author.Needs.{needs}
-use Prim.Native.Nat.{_+_, _-_, _≤_}
+use Prim.Native.Nat.{_-_, _≤_}
 use lib.ListN.{length}
 use Rattle.words.proofs.not_hex.Statement.{statement}
 use Rattle.words.proofs.not_hex.Tie as tie

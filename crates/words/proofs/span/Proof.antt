@@ -1,6 +1,6 @@
 -- The place stays in the line. Assumes nothing.
 use borrow.Author.Needs.{needs}
-use Prim.Native.Nat.{_+_, _-_, _≤_}
+use Prim.Native.Nat.{_-_, _≤_}
 use lib.ListN.{length}
 use Rattle.words.proofs.span.Statement.{statement}
 use Rattle.words.proofs.span.Tie as tie

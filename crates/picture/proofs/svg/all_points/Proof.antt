@@ -2,8 +2,8 @@
 use borrow.Author.Needs.{needs}
 use mathlib.Core.Path.{_≡_}
 use lib.ListN.{length}
-use Rattle.plot.proofs.svg.all_points.Statement.{statement}
-use Rattle.plot.proofs.svg.all_points.Tie as tie
+use Rattle.picture.proofs.svg.all_points.Statement.{statement}
+use Rattle.picture.proofs.svg.all_points.Tie as tie
 
 abbrev Inv-loop : tie.InvT-loop
 Inv-loop run x y dx dy s₀ buf₀ left₀ s buf left = length buf ≡ 1536

@@ -1,8 +1,8 @@
 -- The points that are left fall. Assumes nothing.
 use borrow.Author.Needs.{needs}
 use Prim.Native.Nat.{_-_, _≤_}
-use Rattle.plot.proofs.svg.points.Statement.{statement}
-use Rattle.plot.proofs.svg.points.Tie as tie
+use Rattle.picture.proofs.svg.points.Statement.{statement}
+use Rattle.picture.proofs.svg.points.Tie as tie
 
 abbrev Inv-loop : tie.InvT-loop
 Inv-loop buf n axes x y dx dy radius i₀ j₀ k₀ i j k = k ≤ n

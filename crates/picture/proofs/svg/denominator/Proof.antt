@@ -2,8 +2,8 @@
 use native.Mathlib.Omega.{arith}
 use Rattle.numbers.proofs.DepthLaws.{denominator-lt}
 use borrow.Author.Needs.{needs}
-use Rattle.plot.proofs.svg.denominator.Statement.{statement}
-use Rattle.plot.proofs.svg.denominator.Tie as tie
+use Rattle.picture.proofs.svg.denominator.Statement.{statement}
+use Rattle.picture.proofs.svg.denominator.Tie as tie
 
 returns : tie.Need-returns
 returns c = search needs

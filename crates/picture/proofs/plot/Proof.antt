@@ -3,8 +3,8 @@ use borrow.Author.Needs.{needs}
 use mathlib.Core.Path.{_≡_}
 use Prim.Native.Nat.{_≤_}
 use lib.ListN.{length}
-use Rattle.plot.proofs.main.Statement.{statement}
-use Rattle.plot.proofs.main.Tie as tie
+use Rattle.picture.proofs.plot.Statement.{statement}
+use Rattle.picture.proofs.plot.Tie as tie
 
 abbrev Inv-loop : tie.InvT-loop
 Inv-loop chunk₀ line₀ r₀ p₀ turns₀ chunk line r p turns = (length chunk ≡ 4096) × (length line ≡ 1024) × (r .filled ≤ 4096)
@@ -57,8 +57,8 @@ draw-requires c κs = search needs
 returns : tie.Need-returns Inv-loop μ-loop
 returns c = search needs
 
-pub main-spec : {M : Type 1} → statement M
-main-spec =
+pub plot-spec : {M : Type 1} → statement M
+plot-spec =
     tie.close
     (tie.spec
     Inv-loop

@@ -2,8 +2,8 @@
 use native.Mathlib.Nat.{div-le-of-le-mul}
 use native.Mathlib.Omega.{arith}
 use borrow.Author.Needs.{needs}
-use Rattle.plot.proofs.svg.place.Statement.{statement}
-use Rattle.plot.proofs.svg.place.Tie as tie
+use Rattle.picture.proofs.svg.place.Statement.{statement}
+use Rattle.picture.proofs.svg.place.Tie as tie
 
 mul-result : tie.Need-mul-result
 mul-result c = search needs

@@ -29,50 +29,7 @@ fn place(x: u64, d: u64) -> u64
 
 // A point, at hundredths of a unit from the left and from the top.
 fn point(left: u64, top: u64, radius: u64) {
-    let mut out = [
-        b'<',
-        b'c',
-        b'i',
-        b'r',
-        b'c',
-        b'l',
-        b'e',
-        b' ',
-        b'c',
-        b'x',
-        b'=',
-        b'"',
-        b'0',
-        b'0',
-        b'0',
-        b'0',
-        b'.',
-        b'0',
-        b'0',
-        b'"',
-        b' ',
-        b'c',
-        b'y',
-        b'=',
-        b'"',
-        b'0',
-        b'0',
-        b'0',
-        b'0',
-        b'.',
-        b'0',
-        b'0',
-        b'"',
-        b' ',
-        b'r',
-        b'=',
-        b'"',
-        b'0',
-        b'"',
-        b'/',
-        b'>',
-        b'\n',
-    ];
+    let mut out = *b"<circle cx=\"0000.00\" cy=\"0000.00\" r=\"0\"/>\n";
     text::put_digits(&mut out, 12, 4, left / 100);
     text::put_digits(&mut out, 17, 2, left % 100);
     text::put_digits(&mut out, 25, 4, top / 100);
