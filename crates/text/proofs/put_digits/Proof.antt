@@ -1,40 +1,37 @@
 -- After i turns the first i digits are put, and the next one has the weight at hand. Assumes nothing.
-use mathlib.Core.Path.{_≡_, ap}
-use Prim.Native.Nat.{ℕ, _+_, _-_, _≤_}
+use mathlib.Core.Path.{_≡_}
+use Prim.Native.Nat.{_+_, _-_, _≤_}
 use native.Mathlib.Omega.{arith}
 use lib.ListN.{take}
-use Rattle.walk_text.specs.Text.{decimalDigits, decimal}
-use Rattle.walk_text.specs.Parts.{Put}
-use Rattle.walk_text.proofs.PutLaws.{first-none, first-next, first-all}
-use Rattle.walk_text.proofs.DecimalLaws.{length-digits, weightOf, weight-fits, weight-first, weight-pos, weight-next, digit-at}
-use Rattle.walk_text.proofs.put_decimal.Statement.{statement}
-use Rattle.walk_text.proofs.put_decimal.Tie as tie
+use Rattle.text.specs.Decimal.{decimalDigits}
+use Rattle.text.specs.Put.{Put}
+use Rattle.text.proofs.PutLaws.{first-none, first-next, first-all}
+use Rattle.text.proofs.DecimalLaws.{length-digits, weightOf, weight-fits, weight-first, weight-pos, weight-next, digit-at}
+use Rattle.text.proofs.put_digits.Statement.{statement}
+use Rattle.text.proofs.put_digits.Tie as tie
 
 abbrev Inv-loop : tie.InvT-loop
-Inv-loop out₀ at n k weight₀ i₀ out weight i = (i ≤ k) × (weight ≡ weightOf k i) × Put out₀ out at (take i (decimalDigits k n)) (at + i)
+Inv-loop out₀ at k n weight₀ i₀ out weight i = (i ≤ k) × (weight ≡ weightOf k i) × Put out₀ out at (take i (decimalDigits k n)) (at + i)
 
 abbrev μ-loop : tie.MeasureT-loop
-μ-loop out₀ at n k weight₀ i₀ out weight i = k - i
-
-digit-places-requires : tie.Need-digit-places-requires Inv-loop μ-loop
-digit-places-requires c κs = omega arith
+μ-loop out₀ at k n weight₀ i₀ out weight i = k - i
 
 sub-power : tie.Need-sub-power Inv-loop μ-loop
 sub-power c = omega arith
 
 power-requires : tie.Need-power-requires Inv-loop μ-loop
-power-requires c κs = omega (arith, weight-fits (c .digit-places .result) (omega arith))
+power-requires c κs = omega (arith, weight-fits (c .before .args .k) (omega arith))
 
 loop-holds : tie.Need-loop-holds Inv-loop μ-loop
 loop-holds c =
-    let k = c .before .digit-places .result in
-    let a = c .before .before .before .args in
+    let a = c .before .before .args in
+    let k = a .k in
     (omega arith, omega (arith, weight-first k (omega arith)), first-none (a .out .now) (a .at) (decimalDigits k (a .n)))
 
 div-out : tie.Need-div-out Inv-loop μ-loop
 div-out c =
     let l = c .before in
-    omega (arith, weight-pos (l .before .before .digit-places .result) (l .loop .i) (omega arith))
+    omega (arith, weight-pos (l .before .before .before .args .k) (l .loop .i) (omega arith))
 
 cast-out : tie.Need-cast-out Inv-loop μ-loop
 cast-out c = omega arith
@@ -57,8 +54,8 @@ loop-less c = omega arith
 loop-again : tie.Need-loop-again Inv-loop μ-loop
 loop-again c =
     let l = c .before in
-    let k = l .before .before .digit-places .result in
-    let a = l .before .before .before .before .args in
+    let a = l .before .before .before .args in
+    let k = a .k in
     let i = l .loop .i in (
       omega arith,
       omega (arith, weight-next k i (omega arith)),
@@ -72,21 +69,18 @@ same-length : tie.Need-same-length Inv-loop μ-loop
 same-length c = c .before .loop .inv .2 .size
 
 returns : tie.Need-returns Inv-loop μ-loop
-unfolding decimal
 returns c =
     let l = c .before in
-    let k = l .before .before .digit-places .result in
-    let a = l .before .before .before .before .args in
-    let e : decimalDigits k (a .n) ≡ decimal (a .n) = ap (λ (j : ℕ). decimalDigits j (a .n)) (l .before .before .digit-places .ensures .0) in
-    (rw e at (first-all (a .out .now) (a .at) (decimalDigits k (a .n)) (l .loop .i) (omega (arith, length-digits k (a .n))) (l .loop .inv .2)), omega arith)
+    let a = l .before .before .before .args in
+    let k = a .k in
+    (first-all (a .out .now) (a .at) (decimalDigits k (a .n)) (l .loop .i) (omega (arith, length-digits k (a .n))) (l .loop .inv .2), omega arith)
 
-pub put-decimal-spec : {M : Type 1} → statement M
-put-decimal-spec =
+pub put-digits-spec : {M : Type 1} → statement M
+put-digits-spec =
     tie.close
     (tie.spec
     Inv-loop
     μ-loop
-    digit-places-requires
     sub-power
     power-requires
     loop-holds

@@ -7,7 +7,7 @@ use native.Mathlib.Omega.{arith}
 use lib.ListN.{length, getD}
 use Rattle.numbers.specs.Digits.{digitCount}
 use Rattle.numbers.proofs.DigitLaws.{digit-count-least, pow-pos, pow-up-to}
-use Rattle.walk_text.specs.Text.{decimalDigits}
+use Rattle.text.specs.Decimal.{decimalDigits}
 
 -- how many digits there are
 abbrev pub places : ℕ → ℕ
@@ -31,8 +31,8 @@ weight-of k i j e =
     let d : k - i ≡ suc j = omega arith in
     rw (d, pow-suc 10 j) (mul-div-cancel (10 ^ j) (omega arith))
 
-pub weight-fits : (k : ℕ) → k ≤ 13 → 10 ^ (k - 1) < 2 ^ 64
-weight-fits k h = omega (arith, pow-up-to 10 {j = k - 1} {k = 12} (omega arith) (omega arith))
+pub weight-fits : (k : ℕ) → k ≤ 20 → 10 ^ (k - 1) < 2 ^ 64
+weight-fits k h = omega (arith, pow-up-to 10 {j = k - 1} {k = 19} (omega arith) (omega arith))
 
 pub weight-first : (k : ℕ) → 1 ≤ k → 10 ^ (k - 1) ≡ weightOf k 0
 weight-first k h = sym (weight-of k 0 (k - 1) (omega arith))

@@ -1,9 +1,9 @@
 -- A number below 2^40 has at most thirteen decimal digits. Assumes nothing.
 use borrow.Author.Needs.{needs}
 use native.Mathlib.Omega.{arith}
-use Rattle.walk_text.proofs.DecimalLaws.{places-few}
-use Rattle.walk_text.proofs.digit_places.Statement.{statement}
-use Rattle.walk_text.proofs.digit_places.Tie as tie
+use Rattle.text.proofs.DecimalLaws.{places-few}
+use Rattle.text.proofs.digit_places.Statement.{statement}
+use Rattle.text.proofs.digit_places.Tie as tie
 
 digit-count-requires : tie.Need-digit-count-requires
 digit-count-requires c κs = search needs

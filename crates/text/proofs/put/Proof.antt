@@ -3,10 +3,10 @@ use mathlib.Core.Path.{refl}
 use Prim.Native.Nat.{_+_, _-_, _≤_}
 use native.Mathlib.Omega.{arith}
 use lib.ListN.{length, take}
-use Rattle.walk_text.specs.Parts.{Put}
-use Rattle.walk_text.proofs.PutLaws.{first-none, first-next, first-all}
-use Rattle.walk_text.proofs.put.Statement.{statement}
-use Rattle.walk_text.proofs.put.Tie as tie
+use Rattle.text.specs.Put.{Put}
+use Rattle.text.proofs.PutLaws.{first-none, first-next, first-all}
+use Rattle.text.proofs.put.Statement.{statement}
+use Rattle.text.proofs.put.Tie as tie
 
 abbrev Inv-loop : tie.InvT-loop
 Inv-loop out₀ at text i₀ out i = (i ≤ length text) × Put out₀ out at (take i text) (at + i)
