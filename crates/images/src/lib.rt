@@ -34,12 +34,13 @@ fn even_images(b: usize, l: &mut [u64])
     }
 }
 
-// The image `x` with the gap at the centre `c` opened: from `c` up it is one more.
+// The image `x` with the gap at the centre `c` opened: from `c` up it is one more. The quotient is that one, since a comparison makes the loop
+// below twice as long.
 fn raise(c: u64, x: u64) -> u64
-    requires { ⌜ x < 256 ⌝ }
+    requires { ⌜ (c < 256) × (x < 256) ⌝ }
     ensures { λ r. ⌜ r ≡ openGap c x ⌝ }
 {
-    if x < c { x } else { x + 1 }
+    x + (x + (256 - c)) / 256
 }
 
 // Makes the images of base b / 2 in `l` those of the odd base `b`: the even rule, then the odd, which puts the centre between the halves.
