@@ -1,26 +1,18 @@
--- `images::raise` meets its contract: the quotient is 0 below the centre and 1 from it up. Assumes nothing.
-use mathlib.Core.Logic.{⊎-elim}
-use Prim.Native.Nat.{_+_}
+-- `images::raise` meets its contract: one arm a side of the centre. Assumes nothing.
+use mathlib.Core.Path.{sym}
 use native.Mathlib.Omega.{arith}
-use Rattle.numbers.proofs.Cases.{lt-or-ge}
 use Rattle.permutation.proofs.FaureRules.{choose-low, choose-high}
 use Rattle.images.proofs.raise.Statement.{statement}
 use Rattle.images.proofs.raise.Tie as tie
 
-sub-result : tie.Need-sub-result
-sub-result c = omega arith
-
 add-result : tie.Need-add-result
 add-result c = omega arith
 
-add-result-2 : tie.Need-add-result-2
-add-result-2 c = omega arith
-
 returns : tie.Need-returns
-returns s =
-    let c = s .args .c in
-    let x = s .args .x in
-    ⊎-elim (λ l. omega (arith, choose-low c x x (x + 1) l)) (λ l. omega (arith, choose-high c x x (x + 1) l)) (lt-or-ge x c)
+returns c = sym (choose-low (c .before .args .c) (c .before .args .x) _ _ (omega arith))
+
+returns-2 : tie.Need-returns-2
+returns-2 c = sym (choose-high (c .before .args .c) (c .before .args .x) _ _ (omega arith))
 
 pub raise-spec : {M : Type 1} → statement M
-raise-spec = tie.close (tie.spec sub-result add-result add-result-2 returns)
+raise-spec = tie.close (tie.spec add-result returns returns-2)
