@@ -24,7 +24,7 @@ fn run(base: u64, t: &[u64], r: usize, lo: usize, hi: usize, s: usize, j: usize,
 // first `size` points.
 pub fn fill_tiles(
     b: u64,
-    l: &[u64],
+    l: &[u8],
     size: usize,
     t: &[u64],
     n: u64,
