@@ -62,7 +62,7 @@ fn make_all_tables(
     bases: &[u64],
     directions: &[u64],
     m: usize,
-    images: &mut [u64],
+    images: &mut [u8],
     tables: &mut [u64],
 ) -> [usize; 6]
     requires { ⌜ Arrays family axes (now bases) (now directions) × (family ≡ 2 → ⊥) × (length (now images) ≡ 1536) × (length (now tables) ≡ 1536) ⌝ }
@@ -91,7 +91,7 @@ fn table_rows(
     axes: usize,
     bases: &[u64],
     directions: &[u64],
-    images: &[u64],
+    images: &[u8],
     tables: &[u64],
     sizes: &[usize],
     n: u64,
@@ -157,7 +157,7 @@ fn fill_by_tables(
     requires { ⌜ Arrays family axes (now bases) (now directions) × (1 ≤ axes) × (n + k ≤ 2 ^ 32) × (k * axes ≤ length (now out)) × (family ≡ 2 → ⊥) ⌝ }
     ensures { λ r. ⌜ now (out .exit) ≡ pointsAt family axes (now (bases .entry)) (now (directions .entry)) n k ++ drop (k * axes) (now (out .entry)) ⌝ }
 {
-    let mut images = [0u64; 1536];
+    let mut images = [0u8; 1536];
     let mut tables = [0u64; 1536];
     let sizes = make_all_tables(family, axes, bases, directions, k, &mut images, &mut tables);
     let mut row = 0;

@@ -61,7 +61,7 @@ fn table_limit(b: u64, m: usize) -> usize
 }
 
 // Makes the images of an axis and its first points, in the fronts of `l` and `t`, for `m` rows. Answers how many first points there are.
-pub fn make_tables(family: u64, b: u64, m: usize, l: &mut [u64], t: &mut [u64]) -> usize
+pub fn make_tables(family: u64, b: u64, m: usize, l: &mut [u8], t: &mut [u64]) -> usize
     requires { ⌜ (2 ≤ b) × (b ≤ 256) × (256 ≤ length (now l)) × (256 ≤ length (now t)) ⌝ }
     ensures { λ r. ⌜ Made family b r (now (l .exit)) (now (t .exit)) ⌝ }
 {
@@ -84,7 +84,7 @@ fn table_column(
     requires { ⌜ (2 ≤ b) × (b ≤ 256) × (n + hi ≤ 2 ^ 32) × (lo ≤ hi) × (j < s) × (hi * s ≤ length (now out)) ⌝ }
     ensures { λ v. ⌜ Column (haltonFrom family b n) lo hi s j (now (out .entry)) (now (out .exit)) ⌝ }
 {
-    let mut l = [0; 256];
+    let mut l = [0u8; 256];
     let mut t = [0; 256];
     let size = make_tables(family, b, hi - lo, &mut l, &mut t);
     fill_tiles(b, &l, size, &t, n, lo, hi, s, j, out);

@@ -32,9 +32,6 @@ mul-make-tables c = omega (arith, c .before .before .before .before .before .bef
 shared-slice-read-make-tables : tie.Need-shared-slice-read-make-tables Inv-loop μ-loop
 shared-slice-read-make-tables c = omega (arith, c .before .before .before .before .before .before .before .pre .0 .few)
 
-mul-make-tables-2 : tie.Need-mul-make-tables-2 Inv-loop μ-loop
-mul-make-tables-2 c = omega (arith, c .before .before .before .before .before .before .before .pre .0 .few)
-
 sub-make-tables : tie.Need-sub-make-tables Inv-loop μ-loop
 sub-make-tables c = omega (arith, c .before .before .before .before .before .before .before .pre .0 .few)
 
@@ -44,8 +41,8 @@ part-make-tables-start c = omega (arith, c .before .before .before .before .befo
 part-make-tables-end : tie.Need-part-make-tables-end Inv-loop μ-loop
 part-make-tables-end c = omega (arith, c .before .before .before .before .before .before .before .pre .0 .few)
 
-mul-make-tables-3 : tie.Need-mul-make-tables-3 Inv-loop μ-loop
-mul-make-tables-3 c = omega (arith, c .before .before .before .before .before .before .before .before .pre .0 .few)
+mul-make-tables-2 : tie.Need-mul-make-tables-2 Inv-loop μ-loop
+mul-make-tables-2 c = omega (arith, c .before .before .before .before .before .before .before .before .pre .0 .few)
 
 sub-make-tables-2 : tie.Need-sub-make-tables-2 Inv-loop μ-loop
 sub-make-tables-2 c = omega (arith, c .before .before .before .before .before .before .before .before .pre .0 .few)
@@ -110,11 +107,10 @@ make-all-tables-spec =
     add-last
     mul-make-tables
     shared-slice-read-make-tables
-    mul-make-tables-2
     sub-make-tables
     part-make-tables-start
     part-make-tables-end
-    mul-make-tables-3
+    mul-make-tables-2
     sub-make-tables-2
     part-make-tables-start-2
     part-make-tables-end-2

@@ -55,9 +55,6 @@ mul-fill-tiles c = omega (arith, c .before .before .before .before .before .befo
 shared-slice-read-fill-tiles : tie.Need-shared-slice-read-fill-tiles Inv-loop μ-loop
 shared-slice-read-fill-tiles c = omega (arith, c .before .before .before .before .before .before .before .before .before .pre .0 .0 .few)
 
-mul-fill-tiles-2 : tie.Need-mul-fill-tiles-2 Inv-loop μ-loop
-mul-fill-tiles-2 c = omega (arith, c .before .before .before .before .before .before .before .before .before .pre .0 .0 .few)
-
 sub-fill-tiles : tie.Need-sub-fill-tiles Inv-loop μ-loop
 sub-fill-tiles c = omega (arith, c .before .before .before .before .before .before .before .before .before .pre .0 .0 .few)
 
@@ -67,14 +64,14 @@ part-fill-tiles-start c = omega (arith, c .before .before .before .before .befor
 part-fill-tiles-end : tie.Need-part-fill-tiles-end Inv-loop μ-loop
 part-fill-tiles-end c = omega (arith, c .before .before .before .before .before .before .before .before .before .pre .0 .0 .few)
 
-mul-fill-tiles-3 : tie.Need-mul-fill-tiles-3 Inv-loop μ-loop
-mul-fill-tiles-3 c = omega (arith, c .before .before .before .before .before .before .before .before .before .before .pre .0 .0 .few)
+mul-fill-tiles-2 : tie.Need-mul-fill-tiles-2 Inv-loop μ-loop
+mul-fill-tiles-2 c = omega (arith, c .before .before .before .before .before .before .before .before .before .before .pre .0 .0 .few)
 
 shared-slice-read-fill-tiles-2 : tie.Need-shared-slice-read-fill-tiles-2 Inv-loop μ-loop
 shared-slice-read-fill-tiles-2 c = omega (arith, c .before .before .before .before .before .before .before .before .before .before .before .pre .0 .0 .few)
 
-mul-fill-tiles-4 : tie.Need-mul-fill-tiles-4 Inv-loop μ-loop
-mul-fill-tiles-4 c = omega (arith, c .before .before .before .before .before .before .before .before .before .before .before .pre .0 .0 .few)
+mul-fill-tiles-3 : tie.Need-mul-fill-tiles-3 Inv-loop μ-loop
+mul-fill-tiles-3 c = omega (arith, c .before .before .before .before .before .before .before .before .before .before .before .pre .0 .0 .few)
 
 sub-fill-tiles-2 : tie.Need-sub-fill-tiles-2 Inv-loop μ-loop
 sub-fill-tiles-2 c = omega (arith, c .before .before .before .before .before .before .before .before .before .before .before .pre .0 .0 .few)
@@ -129,13 +126,12 @@ table-rows-spec =
     add-last
     mul-fill-tiles
     shared-slice-read-fill-tiles
-    mul-fill-tiles-2
     sub-fill-tiles
     part-fill-tiles-start
     part-fill-tiles-end
-    mul-fill-tiles-3
+    mul-fill-tiles-2
     shared-slice-read-fill-tiles-2
-    mul-fill-tiles-4
+    mul-fill-tiles-3
     sub-fill-tiles-2
     part-fill-tiles-start-2
     part-fill-tiles-end-2
