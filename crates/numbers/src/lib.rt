@@ -1,6 +1,6 @@
 // Number theory that every axis rests on: Euclid's rule, digits, powers, the depth of a base.
 ghost use mathlib.Core.Path.{_≡_};
-ghost use Prim.Native.Nat.{_^_, _<_, _≤_};
+ghost use Prim.Native.Nat.{_^_, _<_, _≤_, _+_, _/_};
 ghost use Rattle.numbers.specs.Gcd.{gcd};
 ghost use Rattle.numbers.specs.Digits.{digitCount};
 ghost use Rattle.numbers.specs.Depth.{depth, denominator};
@@ -65,4 +65,13 @@ pub fn denominator(b: u64) -> u64
         d = d * b;
     }
     d
+}
+
+// n / b by a product, where `m` is 2^32 / b + 1: the upper half of n × m is the quotient or one more.
+pub fn quotient(n: u64, b: u64, m: u64) -> u64
+    requires { ⌜ (2 ≤ b) × (b ≤ 256) × (n < 2 ^ 32) × (m ≡ 2 ^ 32 / b + 1) ⌝ }
+    ensures { λ r. ⌜ r ≡ n / b ⌝ }
+{
+    let q = n * m / 4294967296;
+    if n < q * b { q - 1 } else { q }
 }
