@@ -11,13 +11,13 @@ pub struct Reversed {
 }
 
 // The numerator of index `n` in base `b`: the reversing loop, by Horner's rule over the digits of `n`, lowest first, to the depth. It divides by
-// `b` twice: where r × b is below 2^32, r / b is r × (2^32 / b + 1) / 2^32.
+// `b` once: where r × b is below 2^32, r / b is r × (2^32 / b + 1) / 2^32.
 pub fn jump(family: u64, b: u64, n: u64) -> Reversed
     requires { ⌜ (2 ≤ b) × (b ≤ 256) × (n < 2 ^ 32) ⌝ }
     ensures { λ r. ⌜ r .numerator ≡ numerator (imageOf family b) b n ⌝ }
 {
     let m = 4294967296 / b + 1;
-    let mut rest = n / b;
+    let mut rest = numbers::quotient(n, b, m);
     let mut x = permutation::image(family, b, n - rest * b);
     let mut p = b;
     while p < 4294967296 {

@@ -8,14 +8,14 @@ ghost use Rattle.halton.specs.Axis.{numerator};
 ghost use Rattle.columns.specs.Rows.{Column};
 ghost use Rattle.tables.specs.Tables.{Images, Table, shifted};
 
-// The numerator of index `n` over the images `l`, by Horner's rule over the digits of `n`, lowest first. It divides by `b` twice: where r × b is
+// The numerator of index `n` over the images `l`, by Horner's rule over the digits of `n`, lowest first. It divides by `b` once: where r × b is
 // below 2^32, r / b is r × (2^32 / b + 1) / 2^32.
 pub fn jump(b: u64, l: &[u8], n: u64) -> u64
     requires { ⌜ (2 ≤ b) × (b ≤ 256) × (n < 2 ^ 32) × (256 ≤ length (now l)) × Images b (now l) ⌝ }
     ensures { λ r. ⌜ r ≡ numerator (imageIn (now (l .entry))) b n ⌝ }
 {
     let m = 4294967296 / b + 1;
-    let mut r = n / b;
+    let mut r = numbers::quotient(n, b, m);
     let mut x = l[(n - r * b) as usize] as u64;
     let mut p = b;
     while p < 4294967296 {

@@ -1,6 +1,7 @@
--- `jump` meets its contract: the first digit by a division, each turn one more by a product; at 2^32 or above the power says that the depth is
+-- `jump` meets its contract: each digit by a product; at 2^32 or above the power says that the depth is
 -- reached. Assumes nothing.
-use Prim.Native.Nat.{_+_, _-_, _*_, _/_, _^_, _<_}
+use mathlib.Core.Path.{refl}
+use Prim.Native.Nat.{_+_, _-_, _*_, _/_, _^_, _≤_, _<_}
 use native.Mathlib.Nat.{div-le-self, div-mul-le-self}
 use native.Mathlib.Omega.{arith}
 use Rattle.numbers.proofs.DepthLaws.{rising-pos, rising-fits, rising-nears}
@@ -19,15 +20,15 @@ abbrev μ-loop : tie.MeasureT-loop
 
 -- a turn's quotient
 turn : (c : tie.In-loop Inv-loop μ-loop) →
-    let b = c .before .before .before .args .b in
+    let b = c .before .before .before .before .args .b in
     let r = c .before .loop .rest in
     Divided b r (r * (2 ^ 32 / b + 1) / 2 ^ 32)
-turn c = divided (c .before .before .before .args .b) (c .before .loop .rest) (omega arith) (c .before .loop .inv .0)
+turn c = divided (c .before .before .before .before .args .b) (c .before .loop .rest) (omega arith) (c .before .loop .inv .0)
 
 -- what is made so far, times b, is below 2^40
-shifted : (c : tie.In-loop Inv-loop μ-loop) → c .before .loop .x * c .before .before .before .args .b < 2 ^ 40
+shifted : (c : tie.In-loop Inv-loop μ-loop) → c .before .loop .x * c .before .before .before .before .args .b < 2 ^ 40
 shifted c =
-    let a = c .before .before .before .args in
+    let a = c .before .before .before .before .args in
     let l = c .before .loop in
     let lt = reversing-lt (l .inv .1) (omega arith) (image-permutes (a .family) (a .b) (omega arith) .below) in
     rising-fits {b = a .b} {p = l .x} (omega arith) (omega (arith, lt))
@@ -38,22 +39,33 @@ div-m c = omega arith
 add-m : tie.Need-add-m Inv-loop μ-loop
 add-m c = omega (arith, div-le-self 4294967296 (c .args .b))
 
-div-rest : tie.Need-div-rest Inv-loop μ-loop
-div-rest c = omega arith
+quotient-requires : tie.Need-quotient-requires Inv-loop μ-loop
+quotient-requires c κs = (omega arith, omega arith, omega arith, refl)
+
+-- the first digit
+first : (c : tie.After-quotient Inv-loop μ-loop) →
+    let a = c .before .args in
+    let q = c .quotient .result in
+    (q * a .b ≤ a .n) × (a .n - q * a .b < a .b)
+first c =
+    let a = c .before .args in
+    rw (c .quotient .ensures) (div-mul-le-self (a .n) (a .b), remainder-lt (a .n) (a .b) (omega arith))
 
 mul-image : tie.Need-mul-image Inv-loop μ-loop
-mul-image c = omega (arith, div-mul-le-self (c .args .n) (c .args .b))
+mul-image c = omega (arith, first c)
 
 sub-image : tie.Need-sub-image Inv-loop μ-loop
-sub-image c = omega (arith, div-mul-le-self (c .args .n) (c .args .b))
+sub-image c = first c .0
 
 image-requires : tie.Need-image-requires Inv-loop μ-loop
-image-requires c κs = omega (arith, remainder-lt (c .args .n) (c .args .b) (omega arith))
+image-requires c κs = omega (arith, first c)
 
 loop-holds : tie.Need-loop-holds Inv-loop μ-loop
 loop-holds c =
-    let a = c .before .args in
-    (omega (arith, div-mul-le-self (a .n) (a .b)), rw (c .image .ensures) (reversing-first (imageOf (a .family) (a .b)) (a .b) (a .n) (omega arith)))
+    let a = c .before .before .args in (
+      omega (arith, first (c .before)),
+      rw (c .image .ensures, c .before .quotient .ensures) (reversing-first (imageOf (a .family) (a .b)) (a .b) (a .n) (omega arith)),
+    )
 
 mul-q : tie.Need-mul-q Inv-loop μ-loop
 mul-q c = omega (arith, turn c .product)
@@ -72,11 +84,11 @@ image-requires-2 c κs = omega (arith, turn c .digit)
 
 add-x : tie.Need-add-x Inv-loop μ-loop
 add-x c =
-    let a = c .before .before .before .before .args in
+    let a = c .before .before .before .before .before .args in
     omega (arith, shifted (c .before), c .image2 .ensures, image-permutes (a .family) (a .b) (omega arith) .below _ (turn (c .before) .digit))
 
 mul-p : tie.Need-mul-p Inv-loop μ-loop
-mul-p c = omega (arith, rising-fits {b = c .before .before .before .before .args .b} {p = c .before .before .loop .p} (omega arith) (omega arith))
+mul-p c = omega (arith, rising-fits {b = c .before .before .before .before .before .args .b} {p = c .before .before .loop .p} (omega arith) (omega arith))
 
 loop-less : tie.Need-loop-less Inv-loop μ-loop
 loop-less c = rising-nears (omega arith) (rising-pos (c .before .before .loop .inv .1 .power) (omega arith)) (omega arith)
@@ -95,7 +107,7 @@ jump-spec =
     μ-loop
     div-m
     add-m
-    div-rest
+    quotient-requires
     mul-image
     sub-image
     image-requires

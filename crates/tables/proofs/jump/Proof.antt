@@ -1,5 +1,6 @@
 -- `tables::jump` meets its contract: the reversing loop of `halton::jump` over a table of images. Assumes nothing.
-use Prim.Native.Nat.{_+_, _-_, _*_, _/_, _^_, _<_}
+use mathlib.Core.Path.{refl}
+use Prim.Native.Nat.{_+_, _-_, _*_, _/_, _^_, _≤_, _<_}
 use native.Mathlib.Nat.{div-le-self, div-mul-le-self}
 use native.Mathlib.Omega.{arith}
 use denote.Ref.{now}
@@ -18,15 +19,15 @@ abbrev μ-loop : tie.MeasureT-loop
 
 -- a turn's quotient
 turn : (c : tie.In-loop Inv-loop μ-loop) →
-    let b = c .before .before .before .args .b in
+    let b = c .before .before .before .before .before .args .b in
     let r = c .before .loop .r in
     Divided b r (r * (2 ^ 32 / b + 1) / 2 ^ 32)
-turn c = divided (c .before .before .before .args .b) (c .before .loop .r) (omega arith) (c .before .loop .inv .0)
+turn c = divided (c .before .before .before .before .before .args .b) (c .before .loop .r) (omega arith) (c .before .loop .inv .0)
 
 -- what is made so far, times b, is below 2^40
-shifted : (c : tie.In-loop Inv-loop μ-loop) → c .before .loop .x * c .before .before .before .args .b < 2 ^ 40
+shifted : (c : tie.In-loop Inv-loop μ-loop) → c .before .loop .x * c .before .before .before .before .before .args .b < 2 ^ 40
 shifted c =
-    let s = c .before .before .before in
+    let s = c .before .before .before .before .before in
     let l = c .before .loop in
     rising-fits {b = s .args .b} {p = l .x} (omega arith) (omega (arith, reversing-lt (l .inv .1) (omega arith) (s .pre .4 .below)))
 
@@ -34,27 +35,38 @@ div-m : tie.Need-div-m Inv-loop μ-loop
 div-m c = omega arith
 
 add-m : tie.Need-add-m Inv-loop μ-loop
-add-m c = omega (arith, div-le-self 4294967296 (c .args .b))
+add-m c = omega (arith, div-le-self 4294967296 (c .before .args .b))
 
-div-r : tie.Need-div-r Inv-loop μ-loop
-div-r c = omega arith
+quotient-requires : tie.Need-quotient-requires Inv-loop μ-loop
+quotient-requires c κs = (omega arith, omega arith, omega arith, refl)
+
+-- the first digit
+first : (c : tie.After-quotient Inv-loop μ-loop) →
+    let a = c .before .before .args in
+    let q = c .quotient .result in
+    (q * a .b ≤ a .n) × (a .n - q * a .b < a .b)
+first c =
+    let a = c .before .before .args in
+    rw (c .quotient .ensures) (div-mul-le-self (a .n) (a .b), remainder-lt (a .n) (a .b) (omega arith))
 
 mul-x : tie.Need-mul-x Inv-loop μ-loop
-mul-x c = omega (arith, div-mul-le-self (c .args .n) (c .args .b))
+mul-x c = omega (arith, first c)
 
 sub-x : tie.Need-sub-x Inv-loop μ-loop
-sub-x c = omega (arith, div-mul-le-self (c .args .n) (c .args .b))
+sub-x c = first c .0
 
 shared-slice-read-x : tie.Need-shared-slice-read-x Inv-loop μ-loop
-shared-slice-read-x c = omega (arith, remainder-lt (c .before .args .n) (c .before .args .b) (omega arith))
+shared-slice-read-x c = omega (arith, first (c .before))
 
 cast-x : tie.Need-cast-x Inv-loop μ-loop
-cast-x c = omega (arith, c .before .pre .4 .below _ (remainder-lt (c .before .args .n) (c .before .args .b) (omega arith)))
+cast-x c = omega (arith, c .before .before .before .pre .4 .below _ (first (c .before) .1))
 
 loop-holds : tie.Need-loop-holds Inv-loop μ-loop
 loop-holds c =
-    let a = c .before .args in
-    (omega (arith, div-mul-le-self (a .n) (a .b)), reversing-first (imageIn (now (a .l))) (a .b) (a .n) (omega arith))
+    let a = c .before .before .before .args in (
+      omega (arith, first (c .before)),
+      rw (c .before .quotient .ensures) (reversing-first (imageIn (now (a .l))) (a .b) (a .n) (omega arith)),
+    )
 
 mul-q : tie.Need-mul-q Inv-loop μ-loop
 mul-q c = omega (arith, turn c .product)
@@ -72,13 +84,13 @@ shared-slice-read-x-2 : tie.Need-shared-slice-read-x-2 Inv-loop μ-loop
 shared-slice-read-x-2 c = omega (arith, turn (c .before) .digit)
 
 cast-x-2 : tie.Need-cast-x-2 Inv-loop μ-loop
-cast-x-2 c = omega (arith, c .before .before .before .before .pre .4 .below _ (turn (c .before) .digit))
+cast-x-2 c = omega (arith, c .before .before .before .before .before .before .pre .4 .below _ (turn (c .before) .digit))
 
 add-x : tie.Need-add-x Inv-loop μ-loop
-add-x c = omega (arith, shifted (c .before), c .before .before .before .before .pre .4 .below _ (turn (c .before) .digit))
+add-x c = omega (arith, shifted (c .before), c .before .before .before .before .before .before .pre .4 .below _ (turn (c .before) .digit))
 
 mul-p : tie.Need-mul-p Inv-loop μ-loop
-mul-p c = omega (arith, rising-fits {b = c .before .before .before .before .args .b} {p = c .before .before .loop .p} (omega arith) (omega arith))
+mul-p c = omega (arith, rising-fits {b = c .before .before .before .before .before .before .args .b} {p = c .before .before .loop .p} (omega arith) (omega arith))
 
 loop-less : tie.Need-loop-less Inv-loop μ-loop
 loop-less c = rising-nears (omega arith) (rising-pos (c .before .before .loop .inv .1 .power) (omega arith)) (omega arith)
@@ -97,7 +109,7 @@ jump-spec =
     μ-loop
     div-m
     add-m
-    div-r
+    quotient-requires
     mul-x
     sub-x
     shared-slice-read-x
