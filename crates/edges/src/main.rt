@@ -138,6 +138,25 @@ fn wrong_windows(s: Sampler) {
     counting(b"count 1/2", s, 0, 6, &[1, 2]);
 }
 
+// R2's second of the day, and the index after the last.
+fn seconds() {
+    let r = sampler::read(&[8, 8]);
+    let a = sampler::second(r.state, 6);
+    report(b"second of index 6 in base 2", a.second);
+    let b = sampler::second(r.state, 4294967296);
+    report(b"second of index 4294967296", b.code);
+}
+
+// A refused reading hands back the blank state, which every call turns down.
+fn blank_state() {
+    let r = sampler::read(&[]);
+    report(b"read no bytes", r.code);
+    opening(b"open the blank state", r.state, 0, 0);
+    let mut point = [0u64; 1];
+    let j = sampler::jump(r.state, 0, &mut point);
+    report(b"jump on the blank state", j.code);
+}
+
 fn main() {
     let r = sampler::read(&[16, 8, 16]);
     edges(r.state);
@@ -147,4 +166,6 @@ fn main() {
     windows(r.state);
     small_runs(r.state);
     wrong_windows(r.state);
+    seconds();
+    blank_state();
 }

@@ -1,2 +1,3 @@
--- The reference table's theorem.
+-- The reference table's theorem, and remarks beside it.
 pub mod Rows
+pub mod Remarks
