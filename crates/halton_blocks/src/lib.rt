@@ -50,7 +50,7 @@ fn fill_tiles(
 }
 
 // How many points a table may have, for `m` rows of base `b`: the base at least, and then no more than there are rows.
-fn table_limit(b: u64, m: usize) -> usize
+pub fn table_limit(b: u64, m: usize) -> usize
     requires { ⌜ (1 ≤ b) × (b ≤ 256) ⌝ }
     ensures { λ r. ⌜ (b ≤ r) × (r ≤ 256) ⌝ }
 {

@@ -1,26 +1,13 @@
 -- `halton_blocks::table_column` meets its contract: its parts one after the other. Assumes nothing.
-use mathlib.Core.Path.{_≡_}
-use mathlib.Core.List.{List}
-use Prim.Native.Nat.{ℕ, _+_, _≤_}
 use native.Mathlib.Omega.{arith}
-use Rattle.numbers.specs.Depth.{depth}
-use Rattle.numbers.proofs.NumeratorLaws.{numerator-ext}
-use Rattle.permutation.specs.Families.{imageOf}
+use borrow.Author.Needs.{needs}
 use Rattle.permutation.proofs.FamilyLaws.{image-permutes}
 use Rattle.columns.proofs.ColumnLaws.{column-as}
-use Rattle.halton_blocks.specs.Filling.{haltonFrom}
-use Rattle.images.specs.Images.{imageIn, Imaged}
-use Rattle.halton.specs.Axis.{numerator}
-use Rattle.tables.specs.Tables.{tabled}
 use Rattle.tables.proofs.TableLaws.{images-of}
-use borrow.Author.Needs.{needs}
+use Rattle.halton_blocks.specs.Filling.{haltonFrom}
+use Rattle.halton_blocks.proofs.FillingLaws.{tabled-is}
 use Rattle.halton_blocks.proofs.table_column.Statement.{statement}
 use Rattle.halton_blocks.proofs.table_column.Tie as tie
-
--- the axis by its images
-tabled-is : (family b n : ℕ) (l : List ℕ) → Imaged (imageOf family b) b l → 2 ≤ b → (i : ℕ) → tabled l b n i ≡ haltonFrom family b n i
-unfolding tabled haltonFrom numerator
-tabled-is family b n l a big i = numerator-ext (imageIn l) (imageOf family b) b (depth b) (n + i) (omega arith) (a .at)
 
 slice-aggregate-images : tie.Need-slice-aggregate-images
 slice-aggregate-images c = search needs

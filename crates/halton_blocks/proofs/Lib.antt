@@ -1,0 +1,2 @@
+-- Laws of points in a row.
+pub mod FillingLaws
