@@ -29,16 +29,7 @@ fn run(base: u64, t: &[u64], r: usize, lo: usize, hi: usize, limit: u64, l: &mut
 }
 
 // Tests the first `m` points from index `n` on, a table's length at a time: `images` are those of base `b`, and `t` its first `size` points.
-fn tiles(
-    b: u64,
-    images: &[u64],
-    size: usize,
-    t: &[u64],
-    n: u64,
-    m: usize,
-    limit: u64,
-    l: &mut [u8],
-)
+fn tiles(b: u64, images: &[u64], size: usize, t: &[u64], n: u64, m: usize, limit: u64, l: &mut [u8])
     requires { ⌜ (2 ≤ b) × (b ≤ 256) × (256 ≤ length (now images)) × Images b (now images) ⌝ }
     requires { ⌜ (size ≤ 256) × (256 ≤ length (now t)) × Table (imageIn (now images)) b size (now t) ⌝ }
     requires { ⌜ (n + m ≤ 2 ^ 32) × (m ≤ length (now l)) ⌝ }

@@ -7,16 +7,28 @@ use native.Mathlib.Nat.{add-assoc, le-refl, add-mul, le-div-iff-mul-le}
 use native.Mathlib.Numerals.{add-one}
 use native.Mathlib.Omega.{arith}
 use lib.Dec.{ltb}
-use lib.ListN.{getD, replicate, getD-replicate}
+use lib.ListN.{length, take, drop, getD, replicate, getD-replicate}
 use Rattle.numbers.specs.Count.{bit, count}
 use Rattle.numbers.specs.Cut.{belowCut}
 use Rattle.numbers.proofs.Cases.{lt-iff}
 use Rattle.numbers.proofs.CountLaws.{count-ext, count-parts}
 use Rattle.marks.specs.Marking.{keepIf, Marked}
-use Rattle.points.specs.Arrays.{numeratorAt, numeratorFrom, denominatorAt}
+use Rattle.sobol_tables.specs.Tables.{Directions}
+use Rattle.points.specs.Arrays.{numeratorAt, numeratorFrom, denominatorAt, Arrays}
+use Rattle.points.proofs.ArrayLaws.{numerator-at-lt, numerator-by-part, denominator-by-two}
 use Rattle.window.specs.Counting.{uOf, qOf}
 use Rattle.window.specs.Walking.{insideBy, insideFrom}
 use Rattle.inside_count.specs.Flagging.{cutLimit, Flags}
+
+-- ---- the direction numbers of an axis
+
+-- the code's part of the array has 32 of them, and every point by them is below the denominator
+pub directions-of : {family axes : ℕ} {bases vs : List ℕ} → Arrays family axes bases vs → (i : ℕ) → i < axes → family ≡ 2
+    → length (take (32 * i + 32 - 32 * i) (drop (32 * i) vs)) ≡ 32 → Directions (take (32 * i + 32 - 32 * i) (drop (32 * i) vs))
+directions-of {family} {axes} {bases} {vs} a i h e k = record {
+  long = k;
+  low = λ n. omega (arith, numerator-at-lt a i h n, numerator-by-part family bases vs n i e, denominator-by-two family bases i e);
+}
 
 -- ---- flags
 

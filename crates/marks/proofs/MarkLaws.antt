@@ -24,6 +24,10 @@ keep-no a b f h = rw (le-ltb a b h) refl
 pub marked-none : (g : ℕ → ℕ) (limit lo : ℕ) (l : List ℕ) → Marked g limit lo lo l l
 marked-none g limit lo l = record { same-length = refl; tested = λ i a h. absurd (omega arith); kept = λ i f. refl }
 
+-- no flag to clear
+pub marked-all : (g : ℕ → ℕ) (limit lo hi : ℕ) (l : List ℕ) → ((i : ℕ) → lo ≤ i → i < hi → g i < limit) → Marked g limit lo hi l l
+marked-all g limit lo hi l f = record { same-length = refl; tested = λ i a h. keep-yes (g i) limit (getD l i 0) (f i a h); kept = λ i q. refl }
+
 module _ {g : ℕ → ℕ} {limit lo i : ℕ} {old new : List ℕ} (c : Marked g limit lo i old new) where
   pub marked-more : (v : ℕ) → lo ≤ i → i < length old → v ≡ keepIf (ltb (g i) limit) (getD new i 0) → Marked g limit lo (i + 1) old (set new i v)
   marked-more v h fits e = record {

@@ -3,8 +3,13 @@ use mathlib.Core.Path.{_≡_}
 use mathlib.Core.List.{List}
 use Prim.Native.Nat.{ℕ, _+_, _-_, _^_, _<_}
 use lib.Bits.{bitXor}
-use lib.ListN.{getD}
+use lib.ListN.{length, getD}
 use Rattle.sobol.specs.Stepping.{stepped}
+
+-- the direction numbers of an axis, all of whose points fit 32 bits
+pub record Directions (vs : List ℕ) : Type 0 where
+  pub long : length vs ≡ 32
+  pub low : (n : ℕ) → stepped vs n < 2 ^ 32
 
 pub record PowerOfTwo (n : ℕ) : Type 0 where
   pub exponent : ℕ

@@ -8,6 +8,7 @@ use Rattle.sobol_blocks.specs.Filling.{sobolFrom}
 use Rattle.marks.proofs.MarkLaws.{marked-as}
 use Rattle.points.specs.Arrays.{numeratorFrom}
 use Rattle.points.proofs.ArrayLaws.{base-range, numerator-by-part, numerator-by-base}
+use Rattle.inside_count.proofs.FlagLaws.{directions-of}
 use Rattle.inside_count.proofs.mark_axis.Statement.{statement}
 use Rattle.inside_count.proofs.mark_axis.Tie as tie
 
@@ -30,7 +31,9 @@ part-sobol-marks-end : tie.Need-part-sobol-marks-end
 part-sobol-marks-end c = search needs
 
 sobol-marks-requires : tie.Need-sobol-marks-requires
-sobol-marks-requires c κs = search needs
+sobol-marks-requires c κs =
+    let s = c .before .before .before .before .before .before in
+    (directions-of (s .pre .0) (s .args .i) (omega arith) (omega arith) (search needs), omega arith, omega arith)
 
 same-length : tie.Need-same-length
 same-length c = search needs

@@ -1,6 +1,8 @@
 -- `sobol_marks::run` meets its contract: the flags up to i are tested. Assumes nothing.
-use Prim.Native.Nat.{_-_, _≤_}
+use Prim.Native.Nat.{_+_, _-_, _≤_}
 use native.Mathlib.Omega.{arith}
+use lib.Bits.{xor-lt}
+use lib.ListN.{getD}
 use Rattle.sobol_tables.specs.Tables.{xored}
 use Rattle.marks.specs.Marking.{Marked}
 use Rattle.marks.proofs.MarkLaws.{marked-none, marked-more, marked-to}
@@ -27,6 +29,12 @@ mul-keep c = omega arith
 
 shared-slice-read-keep : tie.Need-shared-slice-read-keep Inv-loop μ-loop
 shared-slice-read-keep c = omega arith
+
+cast-keep : tie.Need-cast-keep Inv-loop μ-loop
+cast-keep c =
+    let a = c .before .before .before .before .before .args in
+    let k = c .before .before .loop .i - a .lo + a .r in
+    omega (arith, xor-lt 32 (a .base) (getD (a .t .now) k 0) (omega arith) (omega (arith, c .shared-slice-known2 .given k)))
 
 slice-read-keep : tie.Need-slice-read-keep Inv-loop μ-loop
 slice-read-keep c = omega (arith, c .before .before .before .loop .inv .2 .same-length)
@@ -66,6 +74,7 @@ run-spec =
     add-keep
     mul-keep
     shared-slice-read-keep
+    cast-keep
     slice-read-keep
     keep-requires
     slice-write-l

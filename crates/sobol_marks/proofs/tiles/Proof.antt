@@ -48,7 +48,7 @@ sub-jump : tie.Need-sub-jump Inv-loop μ-loop
 sub-jump c = omega (arith, first c)
 
 jump-requires : tie.Need-jump-requires Inv-loop μ-loop
-jump-requires c κs = omega arith
+jump-requires c κs = c .before .before .before .before .before .pre .0 .0 .long
 
 sub-least : tie.Need-sub-least Inv-loop μ-loop
 sub-least c = omega (arith, first (c .before))
@@ -58,6 +58,12 @@ add-least c = omega (arith, first (c .before))
 
 least-requires : tie.Need-least-requires Inv-loop μ-loop
 least-requires c κs = omega arith
+
+cast-run : tie.Need-cast-run Inv-loop μ-loop
+cast-run c =
+    let a = c .before .before .before .before .before .before .before .args in
+    let i = c .before .before .before .loop .i in
+    omega (arith, c .before .jump .ensures, c .before .before .before .before .before .before .before .pre .0 .0 .low (a .n + i - (a .n + i) % a .size))
 
 run-requires : tie.Need-run-requires Inv-loop μ-loop
 run-requires c κs =
@@ -105,6 +111,7 @@ tiles-spec =
     sub-least
     add-least
     least-requires
+    cast-run
     run-requires
     loop-less
     loop-again

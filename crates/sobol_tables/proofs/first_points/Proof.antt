@@ -19,6 +19,9 @@ loop-holds : tie.Need-loop-holds Inv-loop μ-loop
 unfolding stepped
 loop-holds c = (omega arith, refl, starts-none _ _, refl)
 
+cast-t : tie.Need-cast-t Inv-loop μ-loop
+cast-t c = omega (arith, c .before .before .before .before .pre .0 .low (c .before .loop .r))
+
 mul-t : tie.Need-mul-t Inv-loop μ-loop
 mul-t c = omega arith
 
@@ -26,7 +29,7 @@ slice-write-t : tie.Need-slice-write-t Inv-loop μ-loop
 slice-write-t c = omega (arith, c .before .loop .inv .3)
 
 step-requires : tie.Need-step-requires Inv-loop μ-loop
-step-requires c κs = (omega arith, omega arith, c .before .loop .inv .1)
+step-requires c κs = (c .before .before .before .before .pre .0 .long, omega arith, c .before .loop .inv .1)
 
 add-r : tie.Need-add-r Inv-loop μ-loop
 add-r c = omega arith
@@ -53,6 +56,7 @@ first-points-spec =
     Inv-loop
     μ-loop
     loop-holds
+    cast-t
     mul-t
     slice-write-t
     step-requires
