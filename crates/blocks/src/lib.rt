@@ -7,7 +7,7 @@ ghost use Rattle.columns.specs.Rows.{Column, Columns};
 ghost use Rattle.points.specs.Arrays.{numeratorFrom, pointsAt, Arrays};
 
 // Writes column `j` of the rows `lo` to `hi`, which have `s` words each: the numerators of axis `i`, row 0 being index `n`.
-pub fn fill_column(
+fn fill_column(
     family: u64,
     axes: usize,
     bases: &[u64],

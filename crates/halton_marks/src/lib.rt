@@ -37,10 +37,11 @@ fn tiles(b: u64, images: &[u64], size: usize, t: &[u64], n: u64, m: usize, limit
 {
     let mut i = 0;
     while i < m {
-        let r = (n + (i as u64)) % (size as u64);
-        let base = tables::jump(b, images, n + (i as u64) - r);
-        let end = columns::least(i + (size - (r as usize)), m);
-        run(base, t, r as usize, i, end, limit, l);
+        let part = columns::tile_at(n + (i as u64), size, i, m);
+        let r = part.place;
+        let end = part.end;
+        let base = tables::jump(b, images, n + (i as u64) - (r as u64));
+        run(base, t, r, i, end, limit, l);
         i = end;
     }
 }

@@ -26,10 +26,11 @@ fn tiles(v: &[u64], size: usize, t: &[u32], n: u64, m: usize, limit: u32, l: &mu
 {
     let mut i = 0;
     while i < m {
-        let r = (n + (i as u64)) % (size as u64);
-        let base = sobol::jump(v, n + (i as u64) - r);
-        let end = columns::least(i + (size - (r as usize)), m);
-        run(base as u32, t, r as usize, i, end, limit, l);
+        let part = columns::tile_at(n + (i as u64), size, i, m);
+        let r = part.place;
+        let end = part.end;
+        let base = sobol::jump(v, n + (i as u64) - (r as u64));
+        run(base as u32, t, r, i, end, limit, l);
         i = end;
     }
 }
