@@ -17,7 +17,7 @@ use Rattle.binary.proofs.XorLaws.{xor-half, xor-swap}
 use Rattle.binary.proofs.MixLaws.{mix-xor}
 use Rattle.sobol.specs.Stepping.{stepped, jumped}
 use Rattle.sobol.proofs.SteppingLaws.{jump-is-stepped}
-use Rattle.sobol_tables.specs.Tables.{PowerOfTwo, Starts, Table, xored}
+use Rattle.sobol_tables.specs.Tables.{Directions, PowerOfTwo, Starts, Table, xored}
 
 gray-xor : (a b : ℕ) → gray (bitXor a b) ≡ bitXor (gray a) (gray b)
 gray-xor a b = ap (bitXor (bitXor a b)) (xor-half a b) ∙ xor-swap a b (a / 2) (b / 2)
@@ -47,6 +47,10 @@ module _ (vs : List ℕ) where
     where
       here : r ≡ i → getD (set t i x) r 0 ≡ stepped vs r
       here q = rw q (getD-set-same t i x 0 fits ∙ e)
+
+-- every point fits 32 bits
+pub point-low : {vs : List ℕ} {x : ℕ} → Directions vs → (n : ℕ) → x ≡ stepped vs n → x < 2 ^ 32
+point-low d n e = omega (arith, d .low n)
 
 -- ---- a part of the points: as many as the table has, from a multiple of its size on
 

@@ -4,7 +4,7 @@ use Prim.Native.Nat.{ℕ, _+_, _-_, _≤_}
 use native.Mathlib.Omega.{arith}
 use denote.Ref.{now}
 use Rattle.sobol_tables.specs.Tables.{xored}
-use Rattle.sobol_tables.proofs.TableLaws.{tile-at, table-pos}
+use Rattle.sobol_tables.proofs.TableLaws.{tile-at, table-pos, point-low}
 use Rattle.sobol_blocks.specs.Filling.{sobolFrom}
 use Rattle.marks.specs.Marking.{Marked}
 use Rattle.marks.proofs.MarkLaws.{marked-none, marked-to, marked-as, marked-join}
@@ -36,9 +36,7 @@ jump-requires : tie.Need-jump-requires Inv-loop μ-loop
 jump-requires c κs = c .before .before .before .before .before .before .pre .0 .0 .long
 
 cast-run : tie.Need-cast-run Inv-loop μ-loop
-cast-run c =
-    let s = c .before .before .before .before .before .before .before in
-    omega (arith, c .jump .ensures, s .pre .0 .0 .low (s .args .n + c .before .before .before .loop .i - c .before .tile-at .result .place))
+cast-run c = omega (arith, point-low (c .before .before .before .before .before .before .before .pre .0 .0) _ (c .jump .ensures))
 
 run-requires : tie.Need-run-requires Inv-loop μ-loop
 run-requires c κs =

@@ -5,7 +5,7 @@ use native.Mathlib.Omega.{arith}
 use lib.ListN.{length, length-set}
 use Rattle.sobol.specs.Stepping.{stepped}
 use Rattle.sobol_tables.specs.Tables.{Starts}
-use Rattle.sobol_tables.proofs.TableLaws.{starts-none, starts-more}
+use Rattle.sobol_tables.proofs.TableLaws.{starts-none, starts-more, point-low}
 use Rattle.sobol_tables.proofs.first_points.Statement.{statement}
 use Rattle.sobol_tables.proofs.first_points.Tie as tie
 
@@ -20,7 +20,7 @@ unfolding stepped
 loop-holds c = (omega arith, refl, starts-none _ _, refl)
 
 cast-t : tie.Need-cast-t Inv-loop μ-loop
-cast-t c = omega (arith, c .before .before .before .before .pre .0 .low (c .before .loop .r))
+cast-t c = omega (arith, point-low (c .before .before .before .before .pre .0) _ (c .before .loop .inv .1))
 
 mul-t : tie.Need-mul-t Inv-loop μ-loop
 mul-t c = omega arith
