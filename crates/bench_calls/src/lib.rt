@@ -72,6 +72,26 @@ pub extern "C" fn bench_steps(plan: &[u8], start: u64, rounds: u64, out: &mut [u
     code
 }
 
+// The same in place: the state is lent to each step.
+#[no_mangle]
+pub extern "C" fn bench_steps_in_place(
+    plan: &[u8],
+    start: u64,
+    rounds: u64,
+    out: &mut [u64],
+) -> u64 {
+    let mut s = opened(plan, start, rounds);
+    let mut code = 0;
+    let mut i = 0;
+    while i < rounds {
+        let r = waking::wake(s, out);
+        code = r.code;
+        s = r.state;
+        i += 1;
+    }
+    code
+}
+
 // Counts a window over a run, `rounds` times. Answers S.
 #[no_mangle]
 pub extern "C" fn bench_counts(

@@ -1,2 +1,3 @@
 -- Laws of many points in a row.
 pub mod RowLaws
+mod EntryLaws

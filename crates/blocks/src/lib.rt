@@ -1,10 +1,11 @@
 // Many points of a plan held in arrays, in a row: one axis after the other, each into its column of the buffer.
 ghost use mathlib.Core.Path.{_≡_};
 ghost use mathlib.Core.List.{_++_};
-ghost use Prim.Native.Nat.{_+_, _*_, _^_, _<_, _≤_};
+ghost use Prim.Native.Nat.{ℕ, _+_, _*_, _^_, _<_, _≤_};
 ghost use lib.ListN.{length, drop};
 ghost use Rattle.columns.specs.Rows.{Column, Columns};
 ghost use Rattle.points.specs.Arrays.{numeratorFrom, pointsAt, Arrays};
+ghost use Rattle.blocks.specs.Tables.{AllMade};
 
 // Writes column `j` of the rows `lo` to `hi`, which have `s` words each: the numerators of axis `i`, row 0 being index `n`.
 fn fill_column(
@@ -54,8 +55,76 @@ fn fill_rows(
     }
 }
 
+// Makes the tables of all axes of a Halton plan, 256 entries an axis, for `m` rows. Answers how many first points each axis has.
+fn make_all_tables(
+    family: u64,
+    axes: usize,
+    bases: &[u64],
+    directions: &[u64],
+    m: usize,
+    images: &mut [u8],
+    tables: &mut [u64],
+) -> [usize; 6]
+    requires { ⌜ Arrays family axes (now bases) (now directions) × (family ≡ 2 → ⊥) × (length (now images) ≡ 1536) × (length (now tables) ≡ 1536) ⌝ }
+    ensures { λ r. ⌜ AllMade family axes (now (bases .entry)) r (now (images .exit)) (now (tables .exit)) ⌝ }
+{
+    let mut sizes = [0usize; 6];
+    let mut i = 0;
+    while i < axes {
+        let first = 256 * i;
+        let last = first + 256;
+        sizes[i] = halton_blocks::make_tables(
+            family,
+            bases[i],
+            m,
+            &mut images[first..last],
+            &mut tables[first..last],
+        );
+        i += 1;
+    }
+    sizes
+}
+
+// Writes the rows `lo` to `hi` of a Halton plan, axis after axis, by the tables of all axes.
+fn table_rows(
+    family: u64,
+    axes: usize,
+    bases: &[u64],
+    directions: &[u64],
+    images: &[u8],
+    tables: &[u64],
+    sizes: &[usize],
+    n: u64,
+    lo: usize,
+    hi: usize,
+    out: &mut [u64],
+)
+    requires { ⌜ Arrays family axes (now bases) (now directions) × (family ≡ 2 → ⊥) × (length (now images) ≡ 1536) × (length (now tables) ≡ 1536) ⌝ }
+    requires { ⌜ AllMade family axes (now bases) (now sizes) (now images) (now tables) × (length (now sizes) ≡ 6) ⌝ }
+    requires { ⌜ (n + hi ≤ 2 ^ 32) × (lo ≤ hi) × (hi * axes ≤ length (now out)) ⌝ }
+    ensures { λ r. ⌜ Columns (numeratorFrom family (now (bases .entry)) (now (directions .entry)) n) lo hi axes axes (now (out .entry)) (now (out .exit)) ⌝ }
+{
+    let mut i = 0;
+    while i < axes {
+        let first = 256 * i;
+        let last = first + 256;
+        halton_blocks::fill_tiles(
+            bases[i],
+            &images[first..last],
+            sizes[i],
+            &tables[first..last],
+            n,
+            lo,
+            hi,
+            axes,
+            i,
+            out,
+        );
+        i += 1;
+    }
+}
 // Writes the `k` points of the indexes from `n` on to the front of `out`, so many rows at a time that they stay near while the axes pass.
-pub fn fill(
+fn fill_plainly(
     out: &mut [u64],
     family: u64,
     axes: usize,
@@ -69,8 +138,66 @@ pub fn fill(
 {
     let mut i = 0;
     while i < k {
-        let end = columns::least(i + 2048, k);
+        let end = columns::least(i + 512, k);
         fill_rows(family, axes, bases, directions, n, i, end, out);
         i = end;
     }
+}
+
+// The same for a Halton plan, by tables of all axes that are made once.
+fn fill_by_tables(
+    out: &mut [u64],
+    family: u64,
+    axes: usize,
+    bases: &[u64],
+    directions: &[u64],
+    n: u64,
+    k: usize,
+)
+    requires { ⌜ Arrays family axes (now bases) (now directions) × (1 ≤ axes) × (n + k ≤ 2 ^ 32) × (k * axes ≤ length (now out)) × (family ≡ 2 → ⊥) ⌝ }
+    ensures { λ r. ⌜ now (out .exit) ≡ pointsAt family axes (now (bases .entry)) (now (directions .entry)) n k ++ drop (k * axes) (now (out .entry)) ⌝ }
+{
+    let mut images = [0u8; 1536];
+    let mut tables = [0u64; 1536];
+    let sizes = make_all_tables(family, axes, bases, directions, k, &mut images, &mut tables);
+    let mut row = 0;
+    while row < k {
+        let end = columns::least(row + 512, k);
+        table_rows(
+            family,
+            axes,
+            bases,
+            directions,
+            &images,
+            &tables,
+            &sizes,
+            n,
+            row,
+            end,
+            out,
+        );
+        row = end;
+    }
+}
+
+// The same: tables of all axes are worth their room for many points of a Halton plan.
+pub fn fill(
+    out: &mut [u64],
+    family: u64,
+    axes: usize,
+    bases: &[u64],
+    directions: &[u64],
+    n: u64,
+    k: usize,
+)
+    requires { ⌜ Arrays family axes (now bases) (now directions) × (1 ≤ axes) × (n + k ≤ 2 ^ 32) × (k * axes ≤ length (now out)) ⌝ }
+    ensures { λ r. ⌜ now (out .exit) ≡ pointsAt family axes (now (bases .entry)) (now (directions .entry)) n k ++ drop (k * axes) (now (out .entry)) ⌝ }
+{
+    if family != 2 {
+        if 1024 <= k {
+            fill_by_tables(out, family, axes, bases, directions, n, k);
+            return;
+        }
+    }
+    fill_plainly(out, family, axes, bases, directions, n, k);
 }

@@ -1,2 +1,1 @@
--- Laws of points in a row.
-pub mod FillingLaws
+pub mod MadeLaws

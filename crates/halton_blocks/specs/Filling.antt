@@ -1,8 +1,17 @@
--- Many points of a Halton axis in a row: those from an index on. Definitions only.
-use Prim.Native.Nat.{ℕ, _+_}
+-- Many points of a Halton axis in a row: those from an index on, and the tables that give them. Definitions only.
+use mathlib.Core.List.{List}
+use Prim.Native.Nat.{ℕ, _+_, _≤_}
 use Rattle.permutation.specs.Families.{imageOf}
+use Rattle.images.specs.Images.{imageIn, Imaged}
 use Rattle.halton.specs.Axis.{numerator}
+use Rattle.tables.specs.Tables.{Table}
 
 -- the numerator i places after index n on an axis of base b
 unfoldable pub haltonFrom : ℕ → ℕ → ℕ → ℕ → ℕ
 haltonFrom family b n i = numerator (imageOf family b) b (n + i)
+
+-- l are the images of the digits of base b, and t begins with the first `size` points of the axis
+pub record Made (family b size : ℕ) (l t : List ℕ) : Type 0 where
+  pub few : size ≤ 256
+  pub images : Imaged (imageOf family b) b l
+  pub table : Table (imageIn l) b size t

@@ -5,7 +5,7 @@ ghost use lib.ListN.{length, getD};
 ghost use Rattle.images.specs.Images.{imageIn};
 ghost use Rattle.columns.specs.Rows.{Column};
 ghost use Rattle.tables.specs.Tables.{Images, Table, shifted, tabled};
-ghost use Rattle.halton_blocks.specs.Filling.{haltonFrom};
+ghost use Rattle.halton_blocks.specs.Filling.{haltonFrom, Made};
 
 // Writes column `j` of the rows `lo` to `hi`: `base` and the table's entries, from entry `r` on.
 fn run(base: u64, t: &[u64], r: usize, lo: usize, hi: usize, s: usize, j: usize, out: &mut [u64])
@@ -22,9 +22,9 @@ fn run(base: u64, t: &[u64], r: usize, lo: usize, hi: usize, s: usize, j: usize,
 
 // Writes column `j` of the rows `lo` to `hi`, row 0 being index `n`, a table's length at a time: `l` are the images of base `b`, and `t` its
 // first `size` points.
-fn fill_tiles(
+pub fn fill_tiles(
     b: u64,
-    l: &[u64],
+    l: &[u8],
     size: usize,
     t: &[u64],
     n: u64,
@@ -50,7 +50,7 @@ fn fill_tiles(
 }
 
 // How many points a table may have, for `m` rows of base `b`: the base at least, and then no more than there are rows.
-pub fn table_limit(b: u64, m: usize) -> usize
+fn table_limit(b: u64, m: usize) -> usize
     requires { ⌜ (1 ≤ b) × (b ≤ 256) ⌝ }
     ensures { λ r. ⌜ (b ≤ r) × (r ≤ 256) ⌝ }
 {
@@ -58,6 +58,16 @@ pub fn table_limit(b: u64, m: usize) -> usize
         return b as usize;
     }
     columns::least(m, 256)
+}
+
+// Makes the images of an axis and its first points, in the fronts of `l` and `t`, for `m` rows. Answers how many first points there are.
+pub fn make_tables(family: u64, b: u64, m: usize, l: &mut [u8], t: &mut [u64]) -> usize
+    requires { ⌜ (2 ≤ b) × (b ≤ 256) × (256 ≤ length (now l)) × (256 ≤ length (now t)) ⌝ }
+    ensures { λ r. ⌜ Made family b r (now (l .exit)) (now (t .exit)) ⌝ }
+{
+    images::images(family, b, l);
+    let limit = table_limit(b, m);
+    tables::table(b, l, limit, t)
 }
 
 // Writes column `j` of the rows `lo` to `hi`: the numerators in base `b`, row 0 being index `n`, by a table.
@@ -74,11 +84,9 @@ fn table_column(
     requires { ⌜ (2 ≤ b) × (b ≤ 256) × (n + hi ≤ 2 ^ 32) × (lo ≤ hi) × (j < s) × (hi * s ≤ length (now out)) ⌝ }
     ensures { λ v. ⌜ Column (haltonFrom family b n) lo hi s j (now (out .entry)) (now (out .exit)) ⌝ }
 {
-    let mut l = [0; 256];
-    images::images(family, b, &mut l);
+    let mut l = [0u8; 256];
     let mut t = [0; 256];
-    let limit = table_limit(b, hi - lo);
-    let size = tables::table(b, &l, limit, &mut t);
+    let size = make_tables(family, b, hi - lo, &mut l, &mut t);
     fill_tiles(b, &l, size, &t, n, lo, hi, s, j, out);
 }
 

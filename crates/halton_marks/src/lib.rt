@@ -29,7 +29,7 @@ fn run(base: u64, t: &[u64], r: usize, lo: usize, hi: usize, limit: u64, l: &mut
 }
 
 // Tests the first `m` points from index `n` on, a table's length at a time: `images` are those of base `b`, and `t` its first `size` points.
-fn tiles(b: u64, images: &[u64], size: usize, t: &[u64], n: u64, m: usize, limit: u64, l: &mut [u8])
+fn tiles(b: u64, images: &[u8], size: usize, t: &[u64], n: u64, m: usize, limit: u64, l: &mut [u8])
     requires { ⌜ (2 ≤ b) × (b ≤ 256) × (256 ≤ length (now images)) × Images b (now images) ⌝ }
     requires { ⌜ (size ≤ 256) × (256 ≤ length (now t)) × Table (imageIn (now images)) b size (now t) ⌝ }
     requires { ⌜ (n + m ≤ 2 ^ 32) × (m ≤ length (now l)) ⌝ }
@@ -51,9 +51,8 @@ pub fn halton_marks(family: u64, b: u64, n: u64, m: usize, limit: u64, l: &mut [
     requires { ⌜ (2 ≤ b) × (b ≤ 256) × (n + m ≤ 2 ^ 32) × (m ≤ length (now l)) ⌝ }
     ensures { λ v. ⌜ Marked (haltonFrom family b n) limit 0 m (now (l .entry)) (now (l .exit)) ⌝ }
 {
-    let mut images = [0; 256];
-    images::images(family, b, &mut images);
+    let mut images = [0u8; 256];
     let mut t = [0; 256];
-    let size = tables::table(b, &images, halton_blocks::table_limit(b, m), &mut t);
+    let size = halton_blocks::make_tables(family, b, m, &mut images, &mut t);
     tiles(b, &images, size, &t, n, m, limit, l);
 }

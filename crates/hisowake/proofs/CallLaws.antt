@@ -1,14 +1,12 @@
 -- Each answer of each call, from the tests that lead to it; and what putting a plan's point leaves. Assumes nothing.
 use mathlib.Core.Path.{_≡_, refl, sym, ap, _∙_}
 use mathlib.Core.Bool.{false}
-use mathlib.Core.Logic.{⊎-elim}
 use mathlib.Core.List.{List, _++_}
-use Prim.Native.Nat.{ℕ, _+_, _*_, _^_, _<_, _≤_}
+use Prim.Native.Nat.{ℕ, _+_, _*_}
 use native.Mathlib.Omega.{arith}
 use lib.Dec.{eqb}
 use lib.ListN.{length, take, drop}
-use borrow.Author.Tests.{lt-ltb, le-ltb, le-leb, lt-leb, ne-eqb}
-use Rattle.numbers.proofs.Cases.{lt-or-ge}
+use borrow.Author.Tests.{ne-eqb}
 use Rattle.numbers.proofs.ListedLaws.{padded-take}
 use Rattle.bits.specs.Stream.{AllBelow, overwrite}
 use Rattle.plan.specs.Plan.{Plan, Valid}
@@ -20,9 +18,10 @@ use Rattle.points.specs.Arrays.{directionsArray, pointAt}
 use Rattle.points.proofs.PointLaws.{point-of-length}
 use Rattle.writer.proofs.RoundTrip.{read-accepted}
 use Rattle.state.proofs.StateLaws.{Holds, holds-point, accepted-holds}
-use Rattle.words.specs.Bytes.{wordBytes}
-use Rattle.words.proofs.ByteLaws.{length-words}
-use Rattle.hisowake.specs.Calls.{pointRefusal, pointCodeBy, pointCode, pointBytesBy, pointBytes}
+use Rattle.c_refusals.specs.Refusals.{pointRefusal}
+use Rattle.big_endian.specs.Bytes.{wordBytes}
+use Rattle.big_endian.proofs.ByteLaws.{length-words}
+use Rattle.hisowake.specs.Calls.{pointCodeBy, pointCode, pointBytesBy, pointBytes}
 
 -- ---- the plan that is read
 
@@ -45,29 +44,6 @@ point-put {p} {axes = axes} h v n old new x e put =
     let front : take axes x ≡ pointOf p n = ap (take axes) (e ∙ holds-point h v n) ∙ padded-take 6 (pointOf p n) axes long in
     let size : 0 + length (wordBytes (pointOf p n)) ≡ 8 * axes = omega (arith, length-words (pointOf p n), long) in
     put ∙ rw (front, size) refl
-
--- ---- when a point is turned down
-
-module _ (index s room : ℕ) where
-  pub point-out : 2 ^ 32 ≤ index → 11 ≡ pointRefusal index s room
-  unfolding pointRefusal
-  point-out h = rw (le-leb (2 ^ 32) index h) refl
-
-  module _ (h : index < 2 ^ 32) where
-    pub point-no-room : room < 8 * s → 13 ≡ pointRefusal index s room
-    unfolding pointRefusal
-    point-no-room r = rw (lt-leb (2 ^ 32) index h, lt-ltb room (8 * s) r) refl
-
-    pub point-none : 8 * s ≤ room → 0 ≡ pointRefusal index s room
-    unfolding pointRefusal
-    point-none r = rw (lt-leb (2 ^ 32) index h, le-ltb room (8 * s) r) refl
-
-  -- it is not: each test passes
-  pub point-zero : pointRefusal index s room ≡ 0 → (index < 2 ^ 32) × (8 * s ≤ room)
-  point-zero z = ⊎-elim (λ h. (h, long h)) (λ h. absurd (omega (arith, point-out h))) (lt-or-ge index (2 ^ 32))
-    where
-      long : index < 2 ^ 32 → 8 * s ≤ room
-      long h = ⊎-elim (λ r. absurd (omega (arith, point-no-room h r))) (λ r. r) (lt-or-ge room (8 * s))
 
 -- ---- the C point
 

@@ -3,14 +3,14 @@ use mathlib.Core.Path.{_≡_, refl, _∙_}
 use mathlib.Core.Bool.{true, false, and-eq-true-iff}
 use mathlib.Core.Logic.{⊎-elim}
 use mathlib.Core.List.{List, [], _∷_, _++_}
-use Prim.Native.Nat.{ℕ, _+_, _*_, _^_, _<_, _≤_}
+use Prim.Native.Nat.{ℕ, _+_, _*_}
 use native.Mathlib.Omega.{arith}
 use lib.Dec.{eqb}
 use lib.ListN.{length, drop}
-use borrow.Author.Tests.{lt-ltb, le-ltb, eq-eqb, ne-eqb, eqb-true}
+use borrow.Author.Tests.{eq-eqb, ne-eqb, eqb-true}
 use Rattle.numbers.specs.Choice.{choose}
 use Rattle.numbers.specs.Count.{count}
-use Rattle.numbers.proofs.Cases.{lt-or-ge, eq-or-ne, true-or-false}
+use Rattle.numbers.proofs.Cases.{true-or-false}
 use Rattle.bits.specs.Stream.{overwrite}
 use Rattle.plan.specs.Plan.{Plan, Valid}
 use Rattle.plan.specs.Reading.{refused, accepted, readPlan}
@@ -19,9 +19,10 @@ use Rattle.state.proofs.StateLaws.{Holds}
 use Rattle.window.specs.Counting.{isWindow}
 use Rattle.window.specs.Walking.{insideFrom, boundBy}
 use Rattle.window.proofs.PlanLaws.{count-held, bound-held}
-use Rattle.words.specs.Bytes.{wordBytes, windowIn}
-use Rattle.words.proofs.ByteLaws.{length-words}
-use Rattle.hisowake.specs.Calls.{isWindowBytes, windowRefusal, answersOf, countRefusal, countCodeBy, countCode, countBytesBy, countBytes}
+use Rattle.c_refusals.specs.Refusals.{countRefusal}
+use Rattle.big_endian.specs.Bytes.{wordBytes, windowIn}
+use Rattle.big_endian.proofs.ByteLaws.{length-words}
+use Rattle.hisowake.specs.Calls.{isWindowBytes, windowRefusal, answersOf, countCodeBy, countCode, countBytesBy, countBytes}
 
 -- ---- when a window is turned down
 
@@ -63,35 +64,6 @@ count-put {p} {axes = axes} h v start N window old new w inside bound e i b put 
     let second = b ∙ bound-held p (h .family-is) (h .axes-is) (h .bases-is) v N in
     let size : 0 + length (wordBytes (inside ∷ bound ∷ [])) ≡ 16 = omega (arith, length-words (inside ∷ bound ∷ [])) in
     put ∙ rw (size, first, second, e, h .axes-is) refl
-
--- ---- when a count is turned down
-
-module _ (start N w room : ℕ) where
-  pub refusal-out : 2 ^ 32 < start + N → 11 ≡ countRefusal start N w room
-  unfolding countRefusal
-  refusal-out h = rw (lt-ltb (2 ^ 32) (start + N) h) refl
-
-  module _ (h : start + N ≤ 2 ^ 32) where
-    pub refusal-off : (w ≡ 0 → ⊥) → w ≡ countRefusal start N w room
-    unfolding countRefusal
-    refusal-off f = rw (le-ltb (2 ^ 32) (start + N) h, ne-eqb w 0 f) refl
-
-    module _ (t : w ≡ 0) where
-      pub refusal-room : room < 16 → 13 ≡ countRefusal start N w room
-      unfolding countRefusal
-      refusal-room r = rw (le-ltb (2 ^ 32) (start + N) h, eq-eqb w 0 t, lt-ltb room 16 r) refl
-
-      pub refusal-none : 16 ≤ room → 0 ≡ countRefusal start N w room
-      unfolding countRefusal
-      refusal-none r = rw (le-ltb (2 ^ 32) (start + N) h, eq-eqb w 0 t, le-ltb room 16 r) refl
-
-  -- it is not: each test passes
-  pub refusal-zero : countRefusal start N w room ≡ 0 → (start + N ≤ 2 ^ 32) × (w ≡ 0) × (16 ≤ room)
-  refusal-zero z =
-      ⊎-elim (λ h. absurd (omega (arith, refusal-out h))) (λ h. ⊎-elim (λ t. (h, t, long h t)) (λ f. absurd (f (refusal-off h f ∙ z))) (eq-or-ne w 0)) (lt-or-ge (2 ^ 32) (start + N))
-    where
-      long : start + N ≤ 2 ^ 32 → w ≡ 0 → 16 ≤ room
-      long h t = ⊎-elim (λ r. absurd (omega (arith, refusal-room h t r))) (λ r. r) (lt-or-ge room 16)
 
 -- ---- the C window count
 

@@ -2,8 +2,8 @@
 -- turned down"). A refusal answers its number and changes no byte. Definitions only.
 use mathlib.Core.Bool.{Bool, _&&_}
 use mathlib.Core.List.{List, [], _∷_, _++_}
-use Prim.Native.Nat.{ℕ, _+_, _*_, _^_}
-use lib.Dec.{ltb, leb, eqb}
+use Prim.Native.Nat.{ℕ, _+_, _*_}
+use lib.Dec.{eqb}
 use lib.ListN.{length, drop}
 use Rattle.numbers.specs.Choice.{choose}
 use Rattle.plan.specs.Plan.{Plan}
@@ -11,13 +11,10 @@ use Rattle.plan.specs.Reading.{Reading, refused, accepted, readPlan}
 use Rattle.points.specs.Point.{axisCount, pointOf}
 use Rattle.state.specs.State.{pick}
 use Rattle.window.specs.Counting.{insideCount, boundOf, isWindow}
-use Rattle.words.specs.Bytes.{wordBytes, windowIn}
+use Rattle.c_refusals.specs.Refusals.{pointRefusal, countRefusal}
+use Rattle.big_endian.specs.Bytes.{wordBytes, windowIn}
 
 -- ---- point: the reading's numbers, 11, 13
-
--- of an index, and the room for so many axes
-unfoldable pub pointRefusal : ℕ → ℕ → ℕ → ℕ
-pointRefusal index s room = choose (leb (2 ^ 32) index) 11 (choose (ltb room (8 * s)) 13 0)
 
 unfoldable pub pointCodeBy : Reading → ℕ → List ℕ → ℕ
 pointCodeBy (refused n) index out = n
@@ -47,10 +44,6 @@ windowRefusal window s = choose (isWindowBytes window s) 0 14
 -- S and the bound
 unfoldable pub answersOf : Plan → ℕ → ℕ → List ℕ → List ℕ
 answersOf p start count window = insideCount p (windowIn window (axisCount p)) start count ∷ boundOf p count ∷ []
-
--- of a run, the window's own refusal, and the room
-unfoldable pub countRefusal : ℕ → ℕ → ℕ → ℕ → ℕ
-countRefusal start count window room = choose (ltb (2 ^ 32) (start + count)) 11 (choose (eqb window 0) (choose (ltb room 16) 13 0) window)
 
 unfoldable pub countCodeBy : Reading → ℕ → ℕ → List ℕ → List ℕ → ℕ
 countCodeBy (refused n) start count window out = n

@@ -8,8 +8,8 @@ ghost use Prim.Native.Nat.{_+_, _*_, _^_, _<_, _≤_};
 ghost use lib.ListN.{length, drop};
 ghost use Rattle.plan.specs.Answer.{planAnswered, Accepted};
 ghost use Rattle.points.specs.Point.{pointOf};
-ghost use Rattle.words.specs.Bytes.{wordBytes};
-ghost use Rattle.hisowake.specs.Calls.{pointRefusal, pointCode, pointBytes, isWindowBytes, windowRefusal, answersOf, countRefusal, countCode, countBytes};
+ghost use Rattle.big_endian.specs.Bytes.{wordBytes};
+ghost use Rattle.hisowake.specs.Calls.{pointCode, pointBytes, isWindowBytes, windowRefusal, answersOf, countCode, countBytes};
 
 // Writes the point of index `n` of a plan that the reader accepted.
 fn put_point(out: &mut [u8], a: PlanRead, n: u64)
@@ -20,21 +20,7 @@ fn put_point(out: &mut [u8], a: PlanRead, n: u64)
     let bases = a.bases;
     let directions = state::plan_directions(a);
     let x = points::point(a.family, axes, &bases, &directions, n);
-    words::put_words(out, &x[..axes]);
-}
-
-// The number by which a point of an accepted plan is turned down, or 0: `room` is the length of the buffer.
-fn point_refusal(index: u64, axes: usize, room: usize) -> u64
-    requires { ⌜ axes ≤ 6 ⌝ }
-    ensures { λ r. ⌜ r ≡ pointRefusal index axes room ⌝ }
-{
-    if 4294967296 <= index {
-        return refusal::OUT_OF_RANGE;
-    }
-    if room < 8 * axes {
-        return refusal::BUFFER_TOO_SMALL;
-    }
-    0
+    big_endian::put_words(out, &x[..axes]);
 }
 
 // Writes the point of any index to the front of `out`: 8 bytes an axis, most significant first. Answers 0 or the refusal's number.
@@ -46,7 +32,7 @@ pub extern "C" fn hisowake_point(plan: &[u8], index: u64, out: &mut [u8]) -> u64
     if a.code != 0 {
         return a.code;
     }
-    let code = point_refusal(index, a.axes, out.len());
+    let code = c_refusals::point_refusal(index, a.axes, out.len());
     if code != 0 {
         return code;
     }
@@ -62,7 +48,7 @@ fn window_refusal(bytes: &[u8], axes: usize) -> u64
     if bytes.len() != 8 * axes {
         return refusal::BAD_WINDOW;
     }
-    let w = words::window_numbers(bytes, axes);
+    let w = big_endian::window_numbers(bytes, axes);
     let end = 2 * axes;
     if window::is_window(&w[..end], axes) {
         return 0;
@@ -78,7 +64,7 @@ fn put_count(out: &mut [u8], a: PlanRead, start: u64, count: u64, window: &[u8])
     let axes = a.axes;
     let bases = a.bases;
     let directions = state::plan_directions(a);
-    let w = words::window_numbers(window, axes);
+    let w = big_endian::window_numbers(window, axes);
     let end = 2 * axes;
     let inside = inside_count::count_inside(
         a.family,
@@ -90,24 +76,7 @@ fn put_count(out: &mut [u8], a: PlanRead, start: u64, count: u64, window: &[u8])
         &w[..end],
     );
     let bound = window::bound(a.family, axes, &bases, &directions, count);
-    words::put_words(out, &[inside, bound]);
-}
-
-// The number by which a count of an accepted plan is turned down, or 0: `window` is the window's own, `room` the length of the buffer.
-fn count_refusal(start: u64, count: u64, window: u64, room: usize) -> u64
-    ensures { λ r. ⌜ r ≡ countRefusal start count window room ⌝ }
-{
-    if 4294967296 < start {
-        refusal::OUT_OF_RANGE
-    } else if 4294967296 - start < count {
-        refusal::OUT_OF_RANGE
-    } else if window != 0 {
-        window
-    } else if room < 16 {
-        refusal::BUFFER_TOO_SMALL
-    } else {
-        0
-    }
+    big_endian::put_words(out, &[inside, bound]);
 }
 
 // Writes S, how many points of the run are inside the window, and the bound of demand 3 to the front of `out`: 8 bytes each, most significant first.
@@ -127,7 +96,7 @@ pub extern "C" fn hisowake_window_count(
         return a.code;
     }
     let w = window_refusal(window, a.axes);
-    let code = count_refusal(start, count, w, out.len());
+    let code = c_refusals::count_refusal(start, count, w, out.len());
     if code != 0 {
         return code;
     }

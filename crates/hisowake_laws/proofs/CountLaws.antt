@@ -25,8 +25,9 @@ use Rattle.window.specs.Counting.{isWindow}
 use Rattle.window_count.specs.Call.{countSpec}
 use Rattle.window_count.proofs.CaseLaws.{count-off}
 use Rattle.window_count.proofs.Demand3.{count-left}
-use Rattle.words.specs.Bytes.{wordBytes, windowIn}
-use Rattle.hisowake.specs.Calls.{isWindowBytes, windowRefusal, answersOf, countRefusal, countCodeBy, countCode, countBytesBy, countBytes}
+use Rattle.c_refusals.specs.Refusals.{countRefusal}
+use Rattle.big_endian.specs.Bytes.{wordBytes, windowIn}
+use Rattle.hisowake.specs.Calls.{isWindowBytes, windowRefusal, answersOf, countCodeBy, countCode, countBytesBy, countBytes}
 
 -- the first number of the reading, the opening, the count and the room that is not 0
 abbrev pub firstOf : ℕ → ℕ → ℕ → ℕ → ℕ

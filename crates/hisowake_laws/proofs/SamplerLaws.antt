@@ -25,10 +25,12 @@ use Rattle.state.proofs.StateLaws.{blank-foreign}
 use Rattle.calls.specs.Calls.{readState, readSpec, jumpSpec, jumpBuf}
 use Rattle.calls.specs.declared.Jumped.{Jumped}
 use Rattle.calls.proofs.CaseLaws.{jump-foreign, jump-out, jump-no-room, jump-done}
-use Rattle.words.specs.Bytes.{wordBytes}
-use Rattle.hisowake.specs.Calls.{pointRefusal, pointCode, pointBytes}
-use Rattle.words.proofs.ByteLaws.{length-words, words-append, words-drop}
-use Rattle.hisowake.proofs.CallLaws.{point-refused, point-out, point-no-room, point-none, point-turned, point-done}
+use Rattle.c_refusals.specs.Refusals.{pointRefusal}
+use Rattle.c_refusals.proofs.RefusalLaws.{point-out, point-no-room, point-none}
+use Rattle.big_endian.specs.Bytes.{wordBytes}
+use Rattle.hisowake.specs.Calls.{pointCode, pointBytes}
+use Rattle.big_endian.proofs.ByteLaws.{length-words, words-append, words-drop}
+use Rattle.hisowake.proofs.CallLaws.{point-refused, point-turned, point-done}
 
 -- what the call answers and leaves is what a reading, and then a jump on the words, answer and leave
 abbrev pub AsSampler : List ℕ → ℕ → List ℕ → List ℕ → Type 0

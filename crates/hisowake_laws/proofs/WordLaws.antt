@@ -10,8 +10,8 @@ use Rattle.numbers.proofs.Cases.{lt-or-ge}
 use Rattle.bits.specs.Stream.{AllBelow, toBits, ofBits, bitsOf}
 use Rattle.bits.proofs.StreamLaws.{length-bits, below-take, below-drop, below-bits, to-bits-of-bits}
 use Rattle.bits.proofs.PackLaws.{bits-inj}
-use Rattle.words.specs.Bytes.{bytesOf, wordBytes}
-use Rattle.words.proofs.ByteLaws.{bytes-spell}
+use Rattle.big_endian.specs.Bytes.{bytesOf, wordBytes}
+use Rattle.big_endian.proofs.ByteLaws.{bytes-spell}
 
 bytes-below : (k n : ℕ) → AllBelow 256 (bytesOf k n)
 unfolding bytesOf AllBelow

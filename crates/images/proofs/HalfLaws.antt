@@ -1,11 +1,9 @@
 -- Faure's images of base b out of those of base b / 2: the even rule for an even base, and both rules in one for an odd base. Assumes nothing.
-use mathlib.Core.Path.{_≡_, refl, sym, ap, _∙_}
-use mathlib.Core.Logic.{⊎-elim}
-use Prim.Native.Nat.{ℕ, zero, suc, _+_, _-_, _*_, _/_, _%_, _<_, _≤_}
+use mathlib.Core.Path.{_≡_, sym, ap, _∙_}
+use Prim.Native.Nat.{ℕ, _+_, _-_, _*_, _/_, _%_, _<_, _≤_}
 use native.Mathlib.Omega.{arith}
-use Rattle.numbers.proofs.Cases.{lt-or-ge}
-use Rattle.permutation.specs.Faure.{closeGap, openGap, oddRule, faureIn, faure}
-use Rattle.permutation.proofs.FaureRules.{choose-low, choose-high, odd-aside, faure-two, faure-odd, even-lower, even-upper}
+use Rattle.permutation.specs.Faure.{closeGap, openGap, faure}
+use Rattle.permutation.proofs.FaureRules.{choose-low, choose-high, odd-aside, faure-odd, even-lower, even-upper}
 
 -- ---- an even base above 2
 
@@ -45,18 +43,3 @@ module _ {b k : ℕ} (big : 5 ≤ b) (odd : b % 2 ≡ 1) (below : k < b / 2) whe
           rw e
           (ap (λ (x : ℕ). 2 * faure ((b - 1) / 2) x + 1) {x = k} {y = (b - 1) / 2 + k - (b - 1) / 2} (omega arith)
           ∙ sym (even-upper (b - 1) ((b - 1) / 2 + k) (omega arith) (omega arith) (omega arith)))
-
--- ---- bases 2 and 3 keep their digits
-
-three : (k : ℕ) → k < 3 → faure 3 k ≡ k
-unfolding faure faureIn oddRule
-three zero h = refl
-three (suc zero) h = refl
-three (suc (suc zero)) h = refl
-three (suc (suc (suc k))) h = absurd (omega arith)
-
-pub faure-small : (b k : ℕ) → b < 4 → k < b → k ≡ faure b k
-faure-small b k l h = sym (⊎-elim (λ p. faure-two b k (omega arith)) (λ p. at (omega arith)) (lt-or-ge b 3))
-  where
-    at : b ≡ 3 → faure b k ≡ k
-    at e = rw e (three k (omega arith))

@@ -1,4 +1,5 @@
-// The images of all digits of a base as a table. Faure's are made in place from those of base b / 2, with about two stores a digit in all.
+// The images of all digits of a base as a table of bytes. Faure's are made in place from those of base b / 2, with about two stores a digit in
+// all.
 ghost use mathlib.Core.Path.{_≡_};
 ghost use Prim.Native.Nat.{_/_, _%_, _<_, _≤_};
 ghost use lib.ListN.{length};
@@ -7,19 +8,19 @@ ghost use Rattle.permutation.specs.Families.{imageOf};
 ghost use Rattle.images.specs.Images.{Imaged};
 
 // The digits of base `b`, each itself, in the front of `l`.
-fn plain_images(b: usize, l: &mut [u64])
+fn plain_images(b: usize, l: &mut [u8])
     requires { ⌜ (b ≤ 256) × (256 ≤ length (now l)) ⌝ }
     ensures { λ r. ⌜ Imaged (imageOf 0 b) b (now (l .exit)) ⌝ }
 {
     let mut d = 0;
     while d < b {
-        l[d] = d as u64;
+        l[d] = d as u8;
         d += 1;
     }
 }
 
 // Makes the images of base b / 2 in `l` those of the even base `b`: twice each in the lower half, and one more in the upper.
-fn even_images(b: usize, l: &mut [u64])
+fn even_images(b: usize, l: &mut [u8])
     requires { ⌜ (4 ≤ b) × (b ≤ 256) × (b % 2 ≡ 0) × (256 ≤ length (now l)) × Imaged (faure (b / 2)) (b / 2) (now l) ⌝ }
     ensures { λ r. ⌜ Imaged (faure b) b (now (l .exit)) ⌝ }
 {
@@ -35,15 +36,15 @@ fn even_images(b: usize, l: &mut [u64])
 }
 
 // The image `x` with the gap at the centre `c` opened: from `c` up it is one more.
-fn raise(c: u64, x: u64) -> u64
-    requires { ⌜ x < 256 ⌝ }
+fn raise(c: u8, x: u8) -> u8
+    requires { ⌜ x < 255 ⌝ }
     ensures { λ r. ⌜ r ≡ openGap c x ⌝ }
 {
     if x < c { x } else { x + 1 }
 }
 
 // Makes the images of base b / 2 in `l` those of the odd base `b`: the even rule, then the odd, which puts the centre between the halves.
-fn odd_images(b: usize, l: &mut [u64])
+fn odd_images(b: usize, l: &mut [u8])
     requires { ⌜ (5 ≤ b) × (b ≤ 256) × (b % 2 ≡ 1) × (256 ≤ length (now l)) × Imaged (faure (b / 2)) (b / 2) (now l) ⌝ }
     ensures { λ r. ⌜ Imaged (faure b) b (now (l .exit)) ⌝ }
 {
@@ -51,17 +52,17 @@ fn odd_images(b: usize, l: &mut [u64])
     let mut k = 0;
     while k < c {
         let x = 2 * l[k];
-        let low = raise(c as u64, x);
-        let high = raise(c as u64, x + 1);
+        let low = raise(c as u8, x);
+        let high = raise(c as u8, x + 1);
         l[k] = low;
         l[c + 1 + k] = high;
         k += 1;
     }
-    l[c] = c as u64;
+    l[c] = c as u8;
 }
 
 // Faure's images of the digits of base `b`, in the front of `l`. Bases 2 and 3 keep their digits.
-fn faure_images(b: usize, l: &mut [u64])
+fn faure_images(b: usize, l: &mut [u8])
     requires { ⌜ (2 ≤ b) × (b ≤ 256) × (256 ≤ length (now l)) ⌝ }
     ensures { λ r. ⌜ Imaged (faure b) b (now (l .exit)) ⌝ }
 {
@@ -78,7 +79,7 @@ fn faure_images(b: usize, l: &mut [u64])
 }
 
 // The images of the digits of base `b` in a plan of this family, in the front of `l`.
-pub fn images(family: u64, b: u64, l: &mut [u64])
+pub fn images(family: u64, b: u64, l: &mut [u8])
     requires { ⌜ (2 ≤ b) × (b ≤ 256) × (256 ≤ length (now l)) ⌝ }
     ensures { λ r. ⌜ Imaged (imageOf family b) b (now (l .exit)) ⌝ }
 {

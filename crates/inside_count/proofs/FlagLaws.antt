@@ -86,12 +86,3 @@ count-none p = refl
 pub count-more : (p : ℕ → Bool) (i : ℕ) → count p (i + 1) ≡ count p i + bit (p i)
 unfolding count
 count-more p i = rw add-one refl
-
-pub count-le : (p : ℕ → Bool) (n : ℕ) → count p n ≤ n
-unfolding count
-count-le p zero = omega arith
-count-le p (suc n) = omega (arith, count-le p n, bit-le (p n))
-  where
-    bit-le : (b : Bool) → bit b ≤ 1
-    bit-le true = le-refl 1
-    bit-le false = omega arith

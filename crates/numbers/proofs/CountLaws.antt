@@ -2,7 +2,7 @@
 use mathlib.Core.Path.{_≡_, refl, sym, ap, ap₂, _∙_}
 use mathlib.Core.Logic.{_⊎_, inl, inr}
 use mathlib.Core.Bool.{Bool, true, false}
-use Prim.Native.Nat.{ℕ, zero, suc, _+_, _<_}
+use Prim.Native.Nat.{ℕ, zero, suc, _+_, _<_, _≤_}
 use native.Mathlib.Nat.{add-zero, add-suc, add-assoc}
 use native.Mathlib.Omega.{arith}
 use lib.Dec.{T}
@@ -18,6 +18,15 @@ pub count-split : (p q r : ℕ → Bool) (n : ℕ) → ((i : ℕ) → bit (p i) 
 unfolding count
 count-split p q r zero h = refl
 count-split p q r (suc n) h = omega (arith, h n, count-split p q r n h)
+
+pub count-le : (p : ℕ → Bool) (n : ℕ) → count p n ≤ n
+unfolding count
+count-le p zero = omega arith
+count-le p (suc n) = omega (arith, count-le p n, bit-le (p n))
+  where
+    bit-le : (b : Bool) → bit b ≤ 1
+    bit-le true = omega arith
+    bit-le false = omega arith
 
 pub count-all : (n : ℕ) → count (λ i. true) n ≡ n
 unfolding count

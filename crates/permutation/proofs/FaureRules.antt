@@ -89,6 +89,20 @@ faure-odd b k l e = go b (le-refl b)
         rw (lt-leb b 2 l, ne-eqb (b % 2) 0 (omega arith))
         (ap (λ (σ : ℕ → ℕ). oddRule σ (b / 2) k) (fun-ext (λ x. fuel f (b - 1) (b - 1) x (omega arith) (omega arith))))
 
+-- bases 2 and 3 keep their digits
+three : (k : ℕ) → k < 3 → faure 3 k ≡ k
+unfolding faure faureIn oddRule
+three zero h = refl
+three (suc zero) h = refl
+three (suc (suc zero)) h = refl
+three (suc (suc (suc k))) h = absurd (omega arith)
+
+pub faure-small : (b k : ℕ) → b < 4 → k < b → k ≡ faure b k
+faure-small b k l h = sym (⊎-elim (λ p. faure-two b k (omega arith)) (λ p. at (omega arith)) (lt-or-ge b 3))
+  where
+    at : b ≡ 3 → faure b k ≡ k
+    at e = rw e (three k (omega arith))
+
 -- ---- 01's sentences
 
 -- for an even base b above 2 and half h = b / 2, digit k below h goes to twice its image in base h

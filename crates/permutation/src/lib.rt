@@ -1,20 +1,37 @@
 // The permutations of the digits: Faure's, and what each family of plans does to a digit.
 ghost use mathlib.Core.Path.{_≡_};
-ghost use Prim.Native.Nat.{_%_, _<_, _≤_};
+ghost use Prim.Native.Nat.{_-_, _%_, _<_, _≤_};
+ghost use lib.Bits.{bitAnd};
 ghost use Rattle.permutation.specs.Faure.{faure};
 ghost use Rattle.permutation.specs.Families.{imageOf};
 
-// Faure's image of the digit `k` in the even base `b`: the even rule, over the images of base b / 2.
-fn image_even(b: u64, k: u64) -> u64
-    requires { ⌜ (2 ≤ b) × (b % 2 ≡ 0) × (k < b) ⌝ }
+// Faure's image of the digit `k` in base `b`, a power of two: the binary digits of `k` in reverse.
+fn image_power(b: u64, k: u64) -> u64
+    requires { ⌜ (2 ≤ b) × (bitAnd b (b - 1) ≡ 0) × (k < b) ⌝ }
     ensures { λ r. ⌜ r ≡ faure b k ⌝ }
 {
-    if b == 2 {
-        return k;
+    let mut h = b;
+    let mut d = k;
+    let mut r = 0;
+    while 1 < h {
+        r = 2 * r + d % 2;
+        d = d / 2;
+        h = h / 2;
     }
+    r
+}
+
+// Faure's image of the digit `k` in the even base `b`: the even rule, over the images of base b / 2. Bases 2 and 3 keep their digits.
+fn image_even(b: u64, k: u64) -> u64
+    requires { ⌜ (4 ≤ b) × (b % 2 ≡ 0) × (k < b) ⌝ }
+    ensures { λ r. ⌜ r ≡ faure b k ⌝ }
+{
     let h = b / 2;
     let d = if k < h { k } else { k - h };
     let upper = if k < h { 0 } else { 1 };
+    if h < 4 {
+        return 2 * d + upper;
+    }
     if h % 2 == 0 {
         2 * image_even(h, d) + upper
     } else {
@@ -24,7 +41,7 @@ fn image_even(b: u64, k: u64) -> u64
 
 // Faure's image of the digit `k` in the odd base `b`: the odd rule, over the images of base b - 1.
 fn image_odd(b: u64, k: u64) -> u64
-    requires { ⌜ (3 ≤ b) × (b % 2 ≡ 1) × (k < b) ⌝ }
+    requires { ⌜ (5 ≤ b) × (b % 2 ≡ 1) × (k < b) ⌝ }
     ensures { λ r. ⌜ r ≡ faure b k ⌝ }
 {
     let c = b / 2;
@@ -41,10 +58,16 @@ pub fn faure_image(b: u64, k: u64) -> u64
     requires { ⌜ (2 ≤ b) × (k < b) ⌝ }
     ensures { λ r. ⌜ r ≡ faure b k ⌝ }
 {
-    if b % 2 == 0 {
-        image_even(b, k)
+    if b < 4 {
+        return k;
+    }
+    if b % 2 == 1 {
+        return image_odd(b, k);
+    }
+    if b & (b - 1) == 0 {
+        image_power(b, k)
     } else {
-        image_odd(b, k)
+        image_even(b, k)
     }
 }
 

@@ -10,17 +10,17 @@ ghost use Rattle.tables.specs.Tables.{Images, Table, shifted};
 
 // The numerator of index `n` over the images `l`, by Horner's rule over the digits of `n`, lowest first. It divides by `b` twice: where r × b is
 // below 2^32, r / b is r × (2^32 / b + 1) / 2^32.
-pub fn jump(b: u64, l: &[u64], n: u64) -> u64
+pub fn jump(b: u64, l: &[u8], n: u64) -> u64
     requires { ⌜ (2 ≤ b) × (b ≤ 256) × (n < 2 ^ 32) × (256 ≤ length (now l)) × Images b (now l) ⌝ }
     ensures { λ r. ⌜ r ≡ numerator (imageIn (now (l .entry))) b n ⌝ }
 {
     let m = 4294967296 / b + 1;
     let mut r = n / b;
-    let mut x = l[(n - r * b) as usize];
+    let mut x = l[(n - r * b) as usize] as u64;
     let mut p = b;
     while p < 4294967296 {
         let q = r * m / 4294967296;
-        x = x * b + l[(r - q * b) as usize];
+        x = x * b + (l[(r - q * b) as usize] as u64);
         r = q;
         p = p * b;
     }
@@ -28,14 +28,14 @@ pub fn jump(b: u64, l: &[u64], n: u64) -> u64
 }
 
 // The table of the first `b` points: the image of each digit, times the weight `w` of the last place.
-fn first_points(b: u64, l: &[u64], w: u64, t: &mut [u64])
+fn first_points(b: u64, l: &[u8], w: u64, t: &mut [u64])
     requires { ⌜ (2 ≤ b) × (b ≤ 256) × (256 ≤ length (now l)) × Images b (now l) × (256 ≤ length (now t)) × (w * b ≡ denominator b) ⌝ }
     ensures { λ r. ⌜ Table (imageIn (now (l .entry))) b b (now (t .exit)) × (length (now (t .exit)) ≡ length (now (t .entry))) ⌝ }
 {
     let end = b as usize;
     let mut d = 0;
     while d < end {
-        t[d] = l[d] * w;
+        t[d] = (l[d] as u64) * w;
         d += 1;
     }
 }
@@ -53,20 +53,20 @@ fn spread(a: u64, at: usize, size: usize, t: &mut [u64])
 }
 
 // Makes the table of the first `size` points one of `size` times `b`. `w` is the weight of the next digit.
-fn grow(b: u64, l: &[u64], w: u64, size: usize, t: &mut [u64])
+fn grow(b: u64, l: &[u8], w: u64, size: usize, t: &mut [u64])
     requires { ⌜ (2 ≤ b) × (b ≤ 256) × (256 ≤ length (now l)) × Images b (now l) ⌝ }
     requires { ⌜ (size * b ≤ 256) × (256 ≤ length (now t)) × (w * b * size ≡ denominator b) × Table (imageIn (now l)) b size (now t) ⌝ }
     ensures { λ r. ⌜ Table (imageIn (now (l .entry))) b (size * b) (now (t .exit)) × (length (now (t .exit)) ≡ length (now (t .entry))) ⌝ }
 {
     let mut d = 1;
     while d < b {
-        spread(l[d as usize] * w, (d as usize) * size, size, t);
+        spread((l[d as usize] as u64) * w, (d as usize) * size, size, t);
         d += 1;
     }
 }
 
 // The table of the first points of the axis: as many as the greatest power of `b` up to `limit`.
-pub fn table(b: u64, l: &[u64], limit: usize, t: &mut [u64]) -> usize
+pub fn table(b: u64, l: &[u8], limit: usize, t: &mut [u64]) -> usize
     requires { ⌜ (2 ≤ b) × (b ≤ 256) × (256 ≤ length (now l)) × Images b (now l) × (256 ≤ length (now t)) × (b ≤ limit) × (limit ≤ 256) ⌝ }
     ensures { λ r. ⌜ (r ≤ 256) × Table (imageIn (now (l .entry))) b r (now (t .exit)) ⌝ }
 {

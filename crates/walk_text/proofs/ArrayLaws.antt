@@ -18,7 +18,8 @@ use Rattle.points.specs.Arrays.{familyOf, basesArray, directionsArray, directio
 use Rattle.points.proofs.ArrayLaws.{arrays-of, numerator-by-part, numerator-by-base, denominator-by-two, denominator-by-base, numerator-at-plan, denominator-at-plan}
 use Rattle.state.specs.State.{made}
 use Rattle.state.specs.declared.Sampler.{Sampler}
-use Rattle.walk_text.specs.Text.{decimal, space, slash, fractions, line, lines}
+use Rattle.text.specs.Decimal.{decimal}
+use Rattle.walk_text.specs.Text.{space, slash, fractions, line, lines}
 use Rattle.walk_text.specs.Parts.{fraction, fractionsAt, lineAt, linesAt}
 
 -- ---- the numbers

@@ -1,4 +1,3 @@
 pub mod PutLaws
-pub mod DecimalLaws
 pub mod ArrayLaws
 pub mod WalkLaws

@@ -13,7 +13,7 @@ use Rattle.plan.specs.declared.PlanRead.{PlanRead}
 use Rattle.plan.proofs.RefusalLaws.{refused-range}
 use Rattle.writer.proofs.RoundTrip.{read-accepted, read-refused}
 use Rattle.walk_text.specs.Text.{textOf, walkText}
-use Rattle.walk_text.specs.Parts.{Put}
+use Rattle.text.specs.Put.{Put}
 
 module _ (bytes : List ℕ) (a : PlanRead) (e : a ≡ answerOf (readPlan bytes)) where
   pub code-low : (a .code ≡ 0 → ⊥) → a .code ≤ 10

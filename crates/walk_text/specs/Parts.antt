@@ -1,19 +1,9 @@
--- What putting a part of the text leaves in a buffer, and the text of a plan that arrays hold. Definitions only.
-use mathlib.Core.Path.{_≡_}
+-- The text of a plan that arrays hold. Definitions only.
 use mathlib.Core.List.{List, [], _++_}
-use Prim.Native.Nat.{ℕ, zero, suc, _+_}
-use lib.ListN.{length}
-use Rattle.bits.specs.Stream.{overwrite}
+use Prim.Native.Nat.{ℕ, zero, suc}
+use Rattle.text.specs.Decimal.{decimal}
 use Rattle.points.specs.Arrays.{numeratorAt, denominatorAt}
-use Rattle.walk_text.specs.Text.{decimal, space, slash, newline}
-
--- a text was put: it stands from `at` on, all else as found, and `next` is the place after it
-pub record Put (old new : List ℕ) (at : ℕ) (text : List ℕ) (next : ℕ) : Type 0 where
-  pub bytes : new ≡ overwrite old at text
-  pub size : length new ≡ length old
-  pub after : next ≡ at + length text
-
--- ---- the text by arrays
+use Rattle.walk_text.specs.Text.{space, slash, newline}
 
 unfoldable pub fraction : ℕ → ℕ → List ℕ
 fraction x d = space ++ decimal x ++ slash ++ decimal d

@@ -1,20 +1,11 @@
 -- The text of the program `walk` (01-scope.md, "Reference points"), as bytes of ASCII. Definitions only.
 use mathlib.Core.List.{List, [], _∷_, _++_}
-use Prim.Native.Nat.{ℕ, zero, suc, _+_, _/_, _%_, _^_, max}
+use Prim.Native.Nat.{ℕ, zero, suc}
 use lib.ListN.{take}
-use Rattle.numbers.specs.Digits.{digitCount}
+use Rattle.text.specs.Decimal.{decimal}
 use Rattle.plan.specs.Plan.{Plan}
 use Rattle.plan.specs.Reading.{Reading, refused, accepted, readPlan}
 use Rattle.points.specs.Point.{axisCount, numeratorOf, denominatorOf}
-
--- the last k decimal digits of n, highest first
-unfoldable pub decimalDigits : ℕ → ℕ → List ℕ
-decimalDigits zero n = []
-decimalDigits (suc k) n = (48 + n / 10 ^ k % 10) ∷ decimalDigits k n
-
--- n in decimal, one digit at least
-unfoldable pub decimal : ℕ → List ℕ
-decimal n = decimalDigits (max 1 (digitCount 10 n)) n
 
 -- "axes "
 abbrev pub axesWord : List ℕ

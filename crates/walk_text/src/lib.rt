@@ -2,61 +2,24 @@
 use plan::PlanRead;
 ghost use mathlib.Core.Path.{_≡_};
 ghost use mathlib.Core.List.{_++_};
-ghost use Prim.Native.Nat.{_+_, _^_, _<_, _≤_, max};
+ghost use Prim.Native.Nat.{_+_, _^_, _<_, _≤_};
 ghost use lib.ListN.{length, take, drop};
-ghost use Rattle.numbers.specs.Digits.{digitCount};
+ghost use Rattle.text.specs.Decimal.{decimal};
+ghost use Rattle.text.specs.Put.{Put};
 ghost use Rattle.plan.specs.Reading.{accepted};
 ghost use Rattle.plan.specs.Answer.{planAnswered, Accepted};
 ghost use Rattle.points.specs.Arrays.{Arrays};
-ghost use Rattle.walk_text.specs.Text.{decimal, newline, textOf, walkText};
-ghost use Rattle.walk_text.specs.Parts.{Put, fraction, fractionsAt, lineAt, linesAt};
+ghost use Rattle.walk_text.specs.Text.{newline, textOf, walkText};
+ghost use Rattle.walk_text.specs.Parts.{fraction, fractionsAt, lineAt, linesAt};
 
-// Puts a text at `at`; gives the place after it, as every `put_` does.
-fn put(out: &mut [u8], at: usize, text: &[u8]) -> usize
-    requires { ⌜ at + length (now text) ≤ length (now out) ⌝ }
-    ensures { λ r. ⌜ Put (now (out .entry)) (now (out .exit)) at (now (text .entry)) r ⌝ }
-{
-    let mut i = 0;
-    while i < text.len() {
-        out[at + i] = text[i];
-        i += 1;
-    }
-    at + i
-}
-
-// How many decimal digits `n` is printed with: 0 has one, and a number below 2^40 at most thirteen.
-fn digit_places(n: u64) -> usize
-    requires { ⌜ n < 2 ^ 40 ⌝ }
-    ensures { λ r. ⌜ (r ≡ max 1 (digitCount 10 n)) × (r ≤ 13) ⌝ }
-{
-    let k = numbers::digit_count(10, n);
-    if k == 0 { 1 } else { k as usize }
-}
-
-// A number in decimal, the highest digit first.
-fn put_decimal(out: &mut [u8], at: usize, n: u64) -> usize
-    requires { ⌜ (n < 2 ^ 40) × (at + 13 ≤ length (now out)) ⌝ }
-    ensures { λ r. ⌜ Put (now (out .entry)) (now (out .exit)) at (decimal n) r × (r ≤ at + 13) ⌝ }
-{
-    let k = digit_places(n);
-    let mut weight = numbers::power(10, (k - 1) as u64);
-    let mut i = 0;
-    while i < k {
-        out[at + i] = 48 + (n / weight % 10) as u8;
-        weight = weight / 10;
-        i += 1;
-    }
-    at + i
-}
-
-// A line of a word and a number, at the front.
+// A line of a word and a number, at the front; gives the place after it, as every `put_` does.
 fn put_head(out: &mut [u8], word: &[u8], n: u64) -> usize
     requires { ⌜ (n < 2 ^ 40) × (length (now word) + 14 ≤ length (now out)) ⌝ }
     ensures { λ r. ⌜ Put (now (out .entry)) (now (out .exit)) 0 (now (word .entry) ++ decimal n ++ newline) r × (r ≤ length (now (word .entry)) + 14) ⌝ }
 {
-    let after_word = put(out, 0, word);
-    let after_number = put_decimal(out, after_word, n);
-    put(out, after_number, &[b'\n'])
+    let after_word = text::put(out, 0, word);
+    let after_number = text::put_decimal(out, after_word, n);
+    text::put(out, after_number, &[b'\n'])
 }
 
 // A space, and numerator/denominator.
@@ -64,10 +27,10 @@ fn put_fraction(out: &mut [u8], at: usize, x: u64, d: u64) -> usize
     requires { ⌜ (x < 2 ^ 40) × (d < 2 ^ 40) × (at + 28 ≤ length (now out)) ⌝ }
     ensures { λ r. ⌜ Put (now (out .entry)) (now (out .exit)) at (fraction x d) r × (r ≤ at + 28) ⌝ }
 {
-    let after_space = put(out, at, &[b' ']);
-    let after_numerator = put_decimal(out, after_space, x);
-    let after_slash = put(out, after_numerator, &[b'/']);
-    put_decimal(out, after_slash, d)
+    let after_space = text::put(out, at, &[b' ']);
+    let after_numerator = text::put_decimal(out, after_space, x);
+    let after_slash = text::put(out, after_numerator, &[b'/']);
+    text::put_decimal(out, after_slash, d)
 }
 
 // The fractions of index `n`, axis by axis.
@@ -107,9 +70,9 @@ fn put_line(
     requires { ⌜ Arrays family axes (now bases) (now directions) × (n < 2 ^ 32) × (at + 200 ≤ length (now out)) ⌝ }
     ensures { λ r. ⌜ Put (now (out .entry)) (now (out .exit)) at (lineAt family axes (now (bases .entry)) (now (directions .entry)) n) r × (r ≤ at + 200) ⌝ }
 {
-    let after_index = put_decimal(out, at, n);
+    let after_index = text::put_decimal(out, at, n);
     let after_point = put_fractions(out, after_index, family, axes, bases, directions, n);
-    put(out, after_point, &[b'\n'])
+    text::put(out, after_point, &[b'\n'])
 }
 
 // The lines of the indexes 0 to 3.

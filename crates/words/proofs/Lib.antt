@@ -1,2 +1,1 @@
--- Laws that the proofs of the functions, and crates above, cite.
-pub mod ByteLaws
+pub mod DecimalLaws

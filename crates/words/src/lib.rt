@@ -1,55 +1,159 @@
-// Numbers as bytes, most significant first: words into a buffer, and the numbers of a window out of one.
+// The words of a line of text, and the numbers that they spell.
 ghost use mathlib.Core.Path.{_≡_};
-ghost use Prim.Native.Nat.{_+_, _*_, _<_, _≤_};
+ghost use Prim.Native.Nat.{_*_, _≤_};
 ghost use lib.ListN.{length};
-ghost use Rattle.numbers.specs.Listed.{padded};
-ghost use Rattle.bits.specs.Stream.{overwrite};
-ghost use Rattle.words.specs.Bytes.{bytesOf, wordBytes, quadAt, windowIn};
+ghost use Rattle.io.specs.Counts.{Counts};
+ghost use Rattle.words.specs.Word.{WordIn};
+ghost use Rattle.words.specs.Decimal.{allDigits, numberOf};
 
-// Writes the 8 bytes of `x` to `out` from `at` on, most significant first.
-fn put_word(out: &mut [u8], at: usize, x: u64)
-    requires { ⌜ at + 8 ≤ length (now out) ⌝ }
-    ensures { λ r. ⌜ now (out .exit) ≡ overwrite (now (out .entry)) at (bytesOf 8 x) ⌝ }
+// A word's place in its line; where there is no word left, start and end are the same.
+pub struct Word {
+    pub start: usize,
+    pub end: usize,
+}
+
+// What a word spells in decimal.
+pub enum Number {
+    Value(u64),
+    NoNumber,
+    TooLarge,
+}
+
+// ---- words
+
+fn is_blank(b: u8) -> bool {
+    if b == b' ' {
+        return true;
+    }
+    b == b'\t'
+}
+
+// The end of the blanks at `from`, or of the word there.
+fn span(line: &[u8], from: usize, blank: bool) -> usize
+    requires { ⌜ from ≤ length (now line) ⌝ }
+    ensures { λ r. ⌜ (from ≤ r) × (r ≤ length (now (line .entry))) ⌝ }
 {
-    let mut i = 0;
-    while i < 8 {
-        out[at + i] = ((x >> (8 * (7 - i))) % 256) as u8;
+    let mut i = from;
+    while i < line.len() {
+        if is_blank(line[i]) != blank {
+            return i;
+        }
         i += 1;
     }
+    i
 }
 
-// Writes words to the front of `out`, 8 bytes each.
-pub fn put_words(out: &mut [u8], words: &[u64])
-    requires { ⌜ 8 * length (now words) ≤ length (now out) ⌝ }
-    ensures { λ r. ⌜ now (out .exit) ≡ overwrite (now (out .entry)) 0 (wordBytes (now (words .entry))) ⌝ }
+// The first word at or after `from`.
+pub fn find(line: &[u8], from: usize) -> Word
+    requires { ⌜ from ≤ length (now line) ⌝ }
+    ensures { λ r. ⌜ WordIn (now (line .entry)) from r ⌝ }
 {
-    let mut i = 0;
-    while i < words.len() {
-        put_word(out, 8 * i, words[i]);
+    let start = span(line, from, true);
+    let end = span(line, start, false);
+    Word { start, end }
+}
+
+// How many words there are from `from` on.
+pub fn count(line: &[u8], from: usize) -> usize
+    requires { ⌜ from ≤ length (now line) ⌝ }
+    ensures { λ r. ⌜ r ≤ length (now (line .entry)) ⌝ }
+{
+    let mut n: usize = 0;
+    let mut outside = true;
+    let mut i = from;
+    while i < line.len() {
+        let blank = is_blank(line[i]);
+        if outside && !blank {
+            n += 1;
+        }
+        outside = blank;
         i += 1;
     }
+    n
 }
 
-// Number `k` of a window, out of its 4 bytes.
-fn quad(bytes: &[u8], k: usize) -> u64
-    requires { ⌜ (4 * k + 4 ≤ length (now bytes)) × (k < 12) ⌝ }
-    ensures { λ r. ⌜ r ≡ quadAt (now (bytes .entry)) k ⌝ }
-{
-    let high = (bytes[4 * k] as u64) * 16777216 + (bytes[4 * k + 1] as u64) * 65536;
-    high + (bytes[4 * k + 2] as u64) * 256 + (bytes[4 * k + 3] as u64)
-}
+// ---- decimal
 
-// The numbers of a window out of its bytes: u and q for each axis, and then zeros.
-pub fn window_numbers(bytes: &[u8], axes: usize) -> [u64; 12]
-    requires { ⌜ (axes ≤ 6) × (8 * axes ≤ length (now bytes)) ⌝ }
-    ensures { λ r. ⌜ r ≡ padded 12 (windowIn (now (bytes .entry)) axes) ⌝ }
+// Whether all bytes are digits.
+fn all_digits(word: &[u8]) -> bool
+    ensures { λ r. ⌜ r ≡ allDigits (now (word .entry)) ⌝ }
 {
-    let mut w = [0u64; 12];
-    let mut k = 0;
-    while k < 2 * axes {
-        let x = quad(bytes, k);
-        w[k] = x;
-        k += 1;
+    let mut i = 0;
+    while i < word.len() {
+        let b = word[i];
+        if b < 48 {
+            return false;
+        }
+        if 57 < b {
+            return false;
+        }
+        i += 1;
     }
-    w
+    true
+}
+
+// The number that a word spells.
+pub fn decimal(word: &[u8]) -> Number
+    ensures { λ r. ⌜ r ≡ numberOf (now (word .entry)) ⌝ }
+{
+    if word.len() == 0 {
+        return Number::NoNumber;
+    }
+    if !all_digits(word) {
+        return Number::NoNumber;
+    }
+    let mut value: u64 = 0;
+    let mut i = 0;
+    while i < word.len() {
+        let digit = (word[i] - 48) as u64;
+        if (18446744073709551615 - digit) / 10 < value {
+            return Number::TooLarge;
+        }
+        value = value * 10 + digit;
+        i += 1;
+    }
+    Number::Value(value)
+}
+
+// ---- hexadecimal
+
+// The value of a digit, in either case; 16 for any other byte.
+fn hex_digit(b: u8) -> u8
+    ensures { λ r. ⌜ r ≤ 16 ⌝ }
+{
+    match b {
+        48..=57 => b - 48,
+        65..=70 => b - 55,
+        97..=102 => b - 87,
+        _ => 16,
+    }
+}
+
+// The place of the first byte that is no hexadecimal digit; the word's length where there is none.
+pub fn not_hex(word: &[u8]) -> usize
+    ensures { λ r. ⌜ r ≤ length (now (word .entry)) ⌝ }
+{
+    let mut i = 0;
+    while i < word.len() {
+        if 15 < hex_digit(word[i]) {
+            return i;
+        }
+        i += 1;
+    }
+    i
+}
+
+// Puts the bytes that pairs of digits spell to the front of `out`, and gives their number. A byte that is no digit counts as 0.
+pub fn hex(word: &[u8], out: &mut [u8]) -> usize
+    requires { ⌜ length (now word) ≤ 2 * length (now out) ⌝ }
+    ensures { λ r. ⌜ Counts r (now (out .exit)) ⌝ }
+{
+    let n = word.len() / 2;
+    let mut i = 0;
+    while i < n {
+        let j = 2 * i;
+        out[i] = hex_digit(word[j]) % 16 * 16 + hex_digit(word[j + 1]) % 16;
+        i += 1;
+    }
+    n
 }

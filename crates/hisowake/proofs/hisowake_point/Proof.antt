@@ -10,8 +10,9 @@ use Rattle.plan.specs.Answer.{planAnswered, Accepted}
 use Rattle.points.specs.Point.{axisCount}
 use Rattle.writer.proofs.RoundTrip.{read-refused}
 use Rattle.state.proofs.StateLaws.{accepted-few}
-use Rattle.hisowake.specs.Calls.{pointRefusal}
-use Rattle.hisowake.proofs.CallLaws.{answer-accepted, accepted-axes, point-zero, point-refused, point-turned, point-done}
+use Rattle.c_refusals.specs.Refusals.{pointRefusal}
+use Rattle.c_refusals.proofs.RefusalLaws.{point-zero}
+use Rattle.hisowake.proofs.CallLaws.{answer-accepted, accepted-axes, point-refused, point-turned, point-done}
 use Rattle.hisowake.proofs.hisowake_point.Statement.{statement}
 use Rattle.hisowake.proofs.hisowake_point.Tie as tie
 

@@ -10,9 +10,11 @@ use Rattle.plan.specs.Answer.{planAnswered, Accepted}
 use Rattle.points.specs.Point.{axisCount}
 use Rattle.writer.proofs.RoundTrip.{read-refused}
 use Rattle.state.proofs.StateLaws.{accepted-few}
-use Rattle.hisowake.specs.Calls.{windowRefusal, countRefusal}
+use Rattle.c_refusals.specs.Refusals.{countRefusal}
+use Rattle.c_refusals.proofs.RefusalLaws.{refusal-zero}
+use Rattle.hisowake.specs.Calls.{windowRefusal}
 use Rattle.hisowake.proofs.CallLaws.{answer-accepted, accepted-axes}
-use Rattle.hisowake.proofs.CountLaws.{refusal-bytes, refusal-zero, count-refused, count-turned, count-done}
+use Rattle.hisowake.proofs.CountLaws.{refusal-bytes, count-refused, count-turned, count-done}
 use Rattle.hisowake.proofs.hisowake_window_count.Statement.{statement}
 use Rattle.hisowake.proofs.hisowake_window_count.Tie as tie
 

@@ -9,8 +9,8 @@ use Rattle.plan.specs.Answer.{planAnswered}
 use Rattle.state.proofs.StateLaws.{Holds, holds-arrays, accepted-holds, accepted-few}
 use Rattle.window.specs.Walking.{Room}
 use Rattle.window.proofs.RangeLaws.{window-room}
-use Rattle.words.specs.Bytes.{windowIn}
-use Rattle.words.proofs.ByteLaws.{window-length, window-front}
+use Rattle.big_endian.specs.Bytes.{windowIn}
+use Rattle.big_endian.proofs.ByteLaws.{window-length, window-front}
 use Rattle.hisowake.proofs.CountLaws.{window-bytes, count-put}
 use Rattle.hisowake.proofs.put_count.Statement.{statement}
 use Rattle.hisowake.proofs.put_count.Tie as tie

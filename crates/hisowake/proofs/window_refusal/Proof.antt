@@ -6,8 +6,8 @@ use native.Mathlib.Omega.{arith}
 use borrow.Author.Needs.{needs}
 use lib.ListN.{length, take}
 use Rattle.window.specs.Counting.{isWindow}
-use Rattle.words.specs.Bytes.{windowIn}
-use Rattle.words.proofs.ByteLaws.{window-length, window-front}
+use Rattle.big_endian.specs.Bytes.{windowIn}
+use Rattle.big_endian.proofs.ByteLaws.{window-length, window-front}
 use Rattle.hisowake.proofs.CountLaws.{bytes-long, bytes-off, bytes-right}
 use Rattle.hisowake.proofs.window_refusal.Statement.{statement}
 use Rattle.hisowake.proofs.window_refusal.Tie as tie

@@ -7,7 +7,7 @@ use borrow.Fn.PlainCycle.{Measures, is, falls, and}
 use Rattle.permutation.specs.Faure.{faure}
 use Rattle.permutation.specs.Families.{imageOf}
 use Rattle.images.proofs.ImageLaws.{imaged-as}
-use Rattle.images.proofs.HalfLaws.{faure-small}
+use Rattle.permutation.proofs.FaureRules.{faure-small}
 use Rattle.images.proofs.faure_images.Reads as faure-images
 use Rattle.images.proofs.faure_images.Kinds as faure-images-kinds
 use Rattle.images.proofs.+faure_images.Lts-faure_images as lts

@@ -31,29 +31,20 @@ entry c =
     let e = l .inv .1 .rest (l .k) (omega arith) (omega arith) in
     (e, omega (arith, e, faure-below (a .b / 2) (l .k) (omega arith) (omega arith)))
 
-mul-lower : tie.Need-mul-lower Inv-loop μ-loop
-mul-lower c = omega arith
-
 slice-read-lower : tie.Need-slice-read-lower Inv-loop μ-loop
 slice-read-lower c = omega arith
 
-mul-lower-2 : tie.Need-mul-lower-2 Inv-loop μ-loop
-mul-lower-2 c = omega (arith, entry (c .before))
+mul-lower : tie.Need-mul-lower Inv-loop μ-loop
+mul-lower c = omega (arith, entry (c .before))
 
 add-upper : tie.Need-add-upper Inv-loop μ-loop
 add-upper c = omega (arith, entry (c .before))
-
-mul-l : tie.Need-mul-l Inv-loop μ-loop
-mul-l c = omega arith
 
 slice-write-l : tie.Need-slice-write-l Inv-loop μ-loop
 slice-write-l c = omega arith
 
 add-l : tie.Need-add-l Inv-loop μ-loop
 add-l c = omega arith
-
-mul-l-2 : tie.Need-mul-l-2 Inv-loop μ-loop
-mul-l-2 c = omega arith
 
 slice-write-l-2 : tie.Need-slice-write-l-2 Inv-loop μ-loop
 slice-write-l-2 c = simp length-set (omega arith)
@@ -89,14 +80,11 @@ even-images-spec =
     Inv-loop
     μ-loop
     loop-holds
-    mul-lower
     slice-read-lower
-    mul-lower-2
+    mul-lower
     add-upper
-    mul-l
     slice-write-l
     add-l
-    mul-l-2
     slice-write-l-2
     add-k
     loop-less

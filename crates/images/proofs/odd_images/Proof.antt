@@ -31,26 +31,26 @@ entry c =
     let e = l .inv .1 .rest (l .k) (omega arith) (omega arith) in
     (e, omega (arith, e, faure-below (a .b / 2) (l .k) (omega arith) (omega arith)))
 
-mul-x : tie.Need-mul-x Inv-loop μ-loop
-mul-x c = omega arith
-
 slice-read-x : tie.Need-slice-read-x Inv-loop μ-loop
 slice-read-x c = omega arith
 
-mul-x-2 : tie.Need-mul-x-2 Inv-loop μ-loop
-mul-x-2 c = omega (arith, entry (c .before))
+mul-x : tie.Need-mul-x Inv-loop μ-loop
+mul-x c = omega (arith, entry (c .before))
+
+cast-raise : tie.Need-cast-raise Inv-loop μ-loop
+cast-raise c = omega arith
 
 raise-requires : tie.Need-raise-requires Inv-loop μ-loop
 raise-requires c κs = omega (arith, entry (c .before))
+
+cast-raise-2 : tie.Need-cast-raise-2 Inv-loop μ-loop
+cast-raise-2 c = omega arith
 
 add-raise : tie.Need-add-raise Inv-loop μ-loop
 add-raise c = omega (arith, entry (c .before .before))
 
 raise-requires-2 : tie.Need-raise-requires-2 Inv-loop μ-loop
 raise-requires-2 c κs = omega (arith, entry (c .before .before))
-
-mul-l : tie.Need-mul-l Inv-loop μ-loop
-mul-l c = omega arith
 
 slice-write-l : tie.Need-slice-write-l Inv-loop μ-loop
 slice-write-l c = omega arith
@@ -60,9 +60,6 @@ add-l c = omega arith
 
 add-l-2 : tie.Need-add-l-2 Inv-loop μ-loop
 add-l-2 c = omega arith
-
-mul-l-2 : tie.Need-mul-l-2 Inv-loop μ-loop
-mul-l-2 c = omega arith
 
 slice-write-l-2 : tie.Need-slice-write-l-2 Inv-loop μ-loop
 slice-write-l-2 c = simp length-set (omega arith)
@@ -88,8 +85,8 @@ loop-again c =
       simp length-set (l .inv .2),
     )
 
-mul-l-3 : tie.Need-mul-l-3 Inv-loop μ-loop
-mul-l-3 c = omega arith
+cast-l : tie.Need-cast-l Inv-loop μ-loop
+cast-l c = omega arith
 
 slice-write-l-3 : tie.Need-slice-write-l-3 Inv-loop μ-loop
 slice-write-l-3 c = omega arith
@@ -111,22 +108,21 @@ odd-images-spec =
     Inv-loop
     μ-loop
     loop-holds
-    mul-x
     slice-read-x
-    mul-x-2
+    mul-x
+    cast-raise
     raise-requires
+    cast-raise-2
     add-raise
     raise-requires-2
-    mul-l
     slice-write-l
     add-l
     add-l-2
-    mul-l-2
     slice-write-l-2
     add-k
     loop-less
     loop-again
-    mul-l-3
+    cast-l
     slice-write-l-3
     same-length
     returns)

@@ -18,8 +18,8 @@ abbrev μ-loop : tie.MeasureT-loop
 loop-holds : tie.Need-loop-holds Inv-loop μ-loop
 loop-holds c = (omega arith, imaged-none _ _, refl)
 
-mul-l : tie.Need-mul-l Inv-loop μ-loop
-mul-l c = omega arith
+cast-l : tie.Need-cast-l Inv-loop μ-loop
+cast-l c = omega arith
 
 slice-write-l : tie.Need-slice-write-l Inv-loop μ-loop
 slice-write-l c = omega arith
@@ -52,7 +52,7 @@ plain-images-spec =
     Inv-loop
     μ-loop
     loop-holds
-    mul-l
+    cast-l
     slice-write-l
     add-d
     loop-less

@@ -6,7 +6,7 @@ use native.Mathlib.Omega.{arith}
 use borrow.Fn.Kinds.{In, Out}
 use borrow.Fn.PlainCycle.{Measures, is, falls, and}
 use Rattle.permutation.specs.Faure.{faure, closeGap}
-use Rattle.permutation.proofs.FaureRules.{choose-low, choose-high, faure-two, placeIn, halfOf, even-halves, place-below, odd-middle, odd-kept, odd-raised}
+use Rattle.permutation.proofs.FaureRules.{choose-low, choose-high, faure-small, placeIn, halfOf, even-halves, place-below, odd-middle, odd-kept, odd-raised}
 use Rattle.permutation.proofs.FaureLaws.{faure-below, close-below}
 use Rattle.permutation.proofs.image_even.Reads as image-even
 use Rattle.permutation.proofs.image_even.Kinds as image-even-kinds
@@ -47,57 +47,72 @@ odd-calls t = (image-even-below t, image-even.Post)
 
 -- ---- the even rule
 
-even-returns : (t : ℕ) → image-even-lts.Need-returns (even-calls t) (image-even-at t) image-even.Post
-even-returns t c = sym (faure-two (c .before .args .b) (c .before .args .k) (omega arith))
-
 -- where the arms have met, d is the digit's place in its half, and `upper` the half
-place : (t : ℕ) (c : image-even-lts.Joined2 (even-calls t) (image-even-at t) image-even.Post) →
-    let a = c .before .before .args in c .if2 .d ≡ placeIn (a .b / 2) (a .k)
+place : (t : ℕ) (c : image-even-lts.Joined1 (even-calls t) (image-even-at t) image-even.Post) →
+    let a = c .before .args in c .if1 .d ≡ placeIn (a .b / 2) (a .k)
 place t c =
+    ⊎-elim (λ w. w .1 ∙ sym (choose-low _ _ _ _ (w .0 .taken))) (λ w. w .1 ∙ sym (choose-high _ _ _ _ (w .0 .left))) (c .if1 .came)
+
+place-fits : (t : ℕ) (c : image-even-lts.Joined1 (even-calls t) (image-even-at t) image-even.Post) → c .if1 .d < c .before .args .b / 2
+place-fits t c =
+    let a = c .before .args in
+    omega (arith, place t c, place-below (a .b / 2) (a .k) (omega arith))
+
+half : (t : ℕ) (c : image-even-lts.Joined2 (even-calls t) (image-even-at t) image-even.Post) →
+    let a = c .before .before .args in c .if2 .upper ≡ halfOf (a .b / 2) (a .k)
+half t c =
     ⊎-elim (λ w. w .1 ∙ sym (choose-low _ _ _ _ (w .0 .taken))) (λ w. w .1 ∙ sym (choose-high _ _ _ _ (w .0 .left))) (c .if2 .came)
 
-half : (t : ℕ) (c : image-even-lts.Joined3 (even-calls t) (image-even-at t) image-even.Post) →
-    let a = c .before .before .before .args in c .if3 .upper ≡ halfOf (a .b / 2) (a .k)
-half t c =
-    ⊎-elim (λ w. w .1 ∙ sym (choose-low _ _ _ _ (w .0 .taken))) (λ w. w .1 ∙ sym (choose-high _ _ _ _ (w .0 .left))) (c .if3 .came)
-
-even-image-even-requires : (t : ℕ) → image-even-lts.Need-image-even-requires (even-calls t) (image-even-at t) image-even.Post
-even-image-even-requires t c κs =
-    let a = c .before .before .before .before .args in
-    omega (arith, place t (c .before .before), place-below (a .b / 2) (a .k) (omega arith))
-
-even-image-odd-requires : (t : ℕ) → image-even-lts.Need-image-odd-requires (even-calls t) (image-even-at t) image-even.Post
-even-image-odd-requires t c κs =
-    let a = c .before .before .before .before .args in
-    omega (arith, place t (c .before .before), place-below (a .b / 2) (a .k) (omega arith))
-
 -- twice an image and a half: what the rule says, and below the base
-even-answer : (t : ℕ) (c : image-even-lts.Joined3 (even-calls t) (image-even-at t) image-even.Post) (r : ℕ)
-    → r ≡ faure (c .before .before .before .args .b / 2) (c .before .if2 .d)
-    → let a = c .before .before .before .args in (2 * r + c .if3 .upper ≡ faure (a .b) (a .k)) × (2 * r + c .if3 .upper < a .b)
+even-answer : (t : ℕ) (c : image-even-lts.Joined2 (even-calls t) (image-even-at t) image-even.Post) (r : ℕ)
+    → r ≡ faure (c .before .before .args .b / 2) (c .before .if1 .d)
+    → let a = c .before .before .args in (2 * r + c .if2 .upper ≡ faure (a .b) (a .k)) × (2 * r + c .if2 .upper < a .b)
 even-answer t c r e =
-    let a = c .before .before .before .args in
-    let same : 2 * r + c .if3 .upper ≡ faure (a .b) (a .k) =
+    let a = c .before .before .args in
+    let same : 2 * r + c .if2 .upper ≡ faure (a .b) (a .k) =
     omega (arith, half t c, e ∙ ap (faure (a .b / 2)) (place t (c .before)), even-halves (a .b) (a .k) (omega arith) (omega arith)) in
     (same, omega (arith, same, faure-below (a .b) (a .k) (omega arith) (omega arith)))
 
+-- over base 2 or 3 the place is its own image
+small-answer : (t : ℕ) (c : image-even-lts.Then3 (even-calls t) (image-even-at t) image-even.Post) →
+    let j = c .before in
+    let a = j .before .before .args in (2 * j .before .if1 .d + j .if2 .upper ≡ faure (a .b) (a .k)) × (2 * j .before .if1 .d + j .if2 .upper < a .b)
+small-answer t c =
+    let j = c .before in
+    even-answer t j _ (faure-small (j .before .before .args .b / 2) (j .before .if1 .d) (omega arith) (place-fits t (j .before)))
+
 even-mul-result : (t : ℕ) → image-even-lts.Need-mul-result (even-calls t) (image-even-at t) image-even.Post
-even-mul-result t c = omega (arith, even-answer t (c .before .before) _ (c .image-even .ensures) .1)
+even-mul-result t c = omega (arith, small-answer t (c .before) .1)
 
 even-add-result : (t : ℕ) → image-even-lts.Need-add-result (even-calls t) (image-even-at t) image-even.Post
-even-add-result t c = omega (arith, even-answer t (c .before .before .before) _ (c .before .image-even .ensures) .1)
+even-add-result t c = omega (arith, small-answer t (c .before .before) .1)
+
+even-returns : (t : ℕ) → image-even-lts.Need-returns (even-calls t) (image-even-at t) image-even.Post
+even-returns t c = small-answer t (c .before .before) .0
+
+even-image-even-requires : (t : ℕ) → image-even-lts.Need-image-even-requires (even-calls t) (image-even-at t) image-even.Post
+even-image-even-requires t c κs = omega (arith, place-fits t (c .before .before .before))
+
+even-image-odd-requires : (t : ℕ) → image-even-lts.Need-image-odd-requires (even-calls t) (image-even-at t) image-even.Post
+even-image-odd-requires t c κs = omega (arith, place-fits t (c .before .before .before))
 
 even-mul-result-2 : (t : ℕ) → image-even-lts.Need-mul-result-2 (even-calls t) (image-even-at t) image-even.Post
-even-mul-result-2 t c = omega (arith, even-answer t (c .before .before) _ (c .image-odd .ensures) .1)
+even-mul-result-2 t c = omega (arith, even-answer t (c .before .before .before) _ (c .image-even .ensures) .1)
 
 even-add-result-2 : (t : ℕ) → image-even-lts.Need-add-result-2 (even-calls t) (image-even-at t) image-even.Post
-even-add-result-2 t c = omega (arith, even-answer t (c .before .before .before) _ (c .before .image-odd .ensures) .1)
+even-add-result-2 t c = omega (arith, even-answer t (c .before .before .before .before) _ (c .before .image-even .ensures) .1)
+
+even-mul-result-3 : (t : ℕ) → image-even-lts.Need-mul-result-3 (even-calls t) (image-even-at t) image-even.Post
+even-mul-result-3 t c = omega (arith, even-answer t (c .before .before .before) _ (c .image-odd .ensures) .1)
+
+even-add-result-3 : (t : ℕ) → image-even-lts.Need-add-result-3 (even-calls t) (image-even-at t) image-even.Post
+even-add-result-3 t c = omega (arith, even-answer t (c .before .before .before .before) _ (c .before .image-odd .ensures) .1)
 
 even-returns-2 : (t : ℕ) → image-even-lts.Need-returns-2 (even-calls t) (image-even-at t) image-even.Post
-even-returns-2 t c = even-answer t (c .before .before .before) _ (c .before .image-even .ensures) .0
+even-returns-2 t c = even-answer t (c .before .before .before .before) _ (c .before .image-even .ensures) .0
 
 even-returns-3 : (t : ℕ) → image-even-lts.Need-returns-3 (even-calls t) (image-even-at t) image-even.Post
-even-returns-3 t c = even-answer t (c .before .before .before) _ (c .before .image-odd .ensures) .0
+even-returns-3 t c = even-answer t (c .before .before .before .before) _ (c .before .image-odd .ensures) .0
 
 -- ---- the odd rule
 
@@ -145,13 +160,15 @@ pub +image-even+image-odd-spec : {M : Type 1} → statement M
 +image-even+image-odd-spec =
     close μ-image-even μ-image-odd
     (λ t. image-even-lts.spec (even-calls t) (image-even-at t) image-even.Post
-    (even-returns t)
-    (even-image-even-requires t)
     (even-mul-result t)
     (even-add-result t)
-    (even-image-odd-requires t)
+    (even-returns t)
+    (even-image-even-requires t)
     (even-mul-result-2 t)
     (even-add-result-2 t)
+    (even-image-odd-requires t)
+    (even-mul-result-3 t)
+    (even-add-result-3 t)
     (even-returns-2 t)
     (even-returns-3 t))
     (λ t. image-odd-lts.spec (odd-calls t) (image-odd-at t) image-odd.Post

@@ -27,17 +27,17 @@ small c =
 loop-holds : tie.Need-loop-holds Inv-loop μ-loop
 loop-holds c = (omega arith, starts-none _ _ _, refl)
 
-mul-t : tie.Need-mul-t Inv-loop μ-loop
-mul-t c = omega arith
-
 shared-slice-read-t : tie.Need-shared-slice-read-t Inv-loop μ-loop
 shared-slice-read-t c = omega arith
 
-mul-t-2 : tie.Need-mul-t-2 Inv-loop μ-loop
-mul-t-2 c = omega (arith, small c)
+cast-t : tie.Need-cast-t Inv-loop μ-loop
+cast-t c = omega (arith, c .shared-slice-known .given (c .before .before .loop .d))
 
-mul-t-3 : tie.Need-mul-t-3 Inv-loop μ-loop
-mul-t-3 c = omega arith
+mul-t : tie.Need-mul-t Inv-loop μ-loop
+mul-t c = omega (arith, small c)
+
+mul-t-2 : tie.Need-mul-t-2 Inv-loop μ-loop
+mul-t-2 c = omega arith
 
 slice-write-t : tie.Need-slice-write-t Inv-loop μ-loop
 slice-write-t c = omega arith
@@ -73,10 +73,10 @@ first-points-spec =
     Inv-loop
     μ-loop
     loop-holds
-    mul-t
     shared-slice-read-t
+    cast-t
+    mul-t
     mul-t-2
-    mul-t-3
     slice-write-t
     add-d
     loop-less

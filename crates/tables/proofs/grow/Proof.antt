@@ -41,17 +41,17 @@ place c =
 loop-holds : tie.Need-loop-holds Inv-loop μ-loop
 loop-holds c = (omega arith, omega arith, table-start (c .before .before .pre .1 .3), refl)
 
-mul-spread : tie.Need-mul-spread Inv-loop μ-loop
-mul-spread c = omega arith
-
 shared-slice-read-spread : tie.Need-shared-slice-read-spread Inv-loop μ-loop
 shared-slice-read-spread c = omega arith
 
-mul-spread-2 : tie.Need-mul-spread-2 Inv-loop μ-loop
-mul-spread-2 c = omega (arith, small (c .before))
+cast-spread : tie.Need-cast-spread Inv-loop μ-loop
+cast-spread c = omega (arith, c .shared-slice-known2 .given (c .before .before .loop .d))
 
-mul-spread-3 : tie.Need-mul-spread-3 Inv-loop μ-loop
-mul-spread-3 c = omega (arith, place (c .before))
+mul-spread : tie.Need-mul-spread Inv-loop μ-loop
+mul-spread c = omega (arith, small (c .before))
+
+mul-spread-2 : tie.Need-mul-spread-2 Inv-loop μ-loop
+mul-spread-2 c = omega (arith, place (c .before))
 
 spread-requires : tie.Need-spread-requires Inv-loop μ-loop
 unfolding Starts
@@ -96,10 +96,10 @@ grow-spec =
     Inv-loop
     μ-loop
     loop-holds
-    mul-spread
     shared-slice-read-spread
+    cast-spread
+    mul-spread
     mul-spread-2
-    mul-spread-3
     spread-requires
     add-d
     loop-less

@@ -45,11 +45,11 @@ mul-x c = omega (arith, div-mul-le-self (c .args .n) (c .args .b))
 sub-x : tie.Need-sub-x Inv-loop μ-loop
 sub-x c = omega (arith, div-mul-le-self (c .args .n) (c .args .b))
 
-mul-x-2 : tie.Need-mul-x-2 Inv-loop μ-loop
-mul-x-2 c = omega (arith, remainder-lt (c .args .n) (c .args .b) (omega arith))
-
 shared-slice-read-x : tie.Need-shared-slice-read-x Inv-loop μ-loop
 shared-slice-read-x c = omega (arith, remainder-lt (c .before .args .n) (c .before .args .b) (omega arith))
+
+cast-x : tie.Need-cast-x Inv-loop μ-loop
+cast-x c = omega (arith, c .before .pre .4 .below _ (remainder-lt (c .before .args .n) (c .before .args .b) (omega arith)))
 
 loop-holds : tie.Need-loop-holds Inv-loop μ-loop
 loop-holds c =
@@ -59,20 +59,20 @@ loop-holds c =
 mul-q : tie.Need-mul-q Inv-loop μ-loop
 mul-q c = omega (arith, turn c .product)
 
-mul-x-3 : tie.Need-mul-x-3 Inv-loop μ-loop
-mul-x-3 c = omega (arith, shifted c)
+mul-x-2 : tie.Need-mul-x-2 Inv-loop μ-loop
+mul-x-2 c = omega (arith, shifted c)
 
-mul-x-4 : tie.Need-mul-x-4 Inv-loop μ-loop
-mul-x-4 c = omega (arith, turn c .fits)
+mul-x-3 : tie.Need-mul-x-3 Inv-loop μ-loop
+mul-x-3 c = omega (arith, turn c .fits)
 
 sub-x-2 : tie.Need-sub-x-2 Inv-loop μ-loop
 sub-x-2 c = turn c .back
 
-mul-x-5 : tie.Need-mul-x-5 Inv-loop μ-loop
-mul-x-5 c = omega (arith, turn c .digit)
-
 shared-slice-read-x-2 : tie.Need-shared-slice-read-x-2 Inv-loop μ-loop
 shared-slice-read-x-2 c = omega (arith, turn (c .before) .digit)
+
+cast-x-2 : tie.Need-cast-x-2 Inv-loop μ-loop
+cast-x-2 c = omega (arith, c .before .before .before .before .pre .4 .below _ (turn (c .before) .digit))
 
 add-x : tie.Need-add-x Inv-loop μ-loop
 add-x c = omega (arith, shifted (c .before), c .before .before .before .before .pre .4 .below _ (turn (c .before) .digit))
@@ -100,15 +100,15 @@ jump-spec =
     div-r
     mul-x
     sub-x
-    mul-x-2
     shared-slice-read-x
+    cast-x
     loop-holds
     mul-q
+    mul-x-2
     mul-x-3
-    mul-x-4
     sub-x-2
-    mul-x-5
     shared-slice-read-x-2
+    cast-x-2
     add-x
     mul-p
     loop-less

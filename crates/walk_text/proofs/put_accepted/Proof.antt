@@ -6,7 +6,7 @@ use lib.ListN.{length}
 use Rattle.plan.specs.Answer.{planAnswered}
 use Rattle.points.specs.Arrays.{Arrays}
 use Rattle.walk_text.specs.Text.{textOf}
-use Rattle.walk_text.proofs.PutLaws.{put-then}
+use Rattle.text.proofs.PutLaws.{put-then}
 use Rattle.walk_text.proofs.ArrayLaws.{made-arrays, made-axes, made-lines}
 use Rattle.walk_text.proofs.put_accepted.Statement.{statement}
 use Rattle.walk_text.proofs.put_accepted.Tie as tie

@@ -3,7 +3,8 @@ use borrow.Author.Needs.{needs}
 use mathlib.Core.Path.{_≡_, subst}
 use Prim.Native.Nat.{ℕ, _+_, _*_, _-_, _≤_}
 use native.Mathlib.Omega.{arith}
-use Rattle.walk_text.specs.Parts.{Put, fractionsAt}
+use Rattle.text.specs.Put.{Put}
+use Rattle.walk_text.specs.Parts.{fractionsAt}
 use Rattle.walk_text.proofs.PutLaws.{no-fraction, next-fraction}
 use Rattle.walk_text.proofs.ArrayLaws.{numerator-at-lt, denominator-at-lt}
 use Rattle.walk_text.proofs.put_fractions.Statement.{statement}

@@ -3,7 +3,7 @@ use borrow.Author.Needs.{needs}
 use Prim.Native.Nat.{_≤_}
 use native.Mathlib.Omega.{arith}
 use lib.ListN.{length}
-use Rattle.walk_text.proofs.PutLaws.{put-then}
+use Rattle.text.proofs.PutLaws.{put-then}
 use Rattle.walk_text.proofs.put_head.Statement.{statement}
 use Rattle.walk_text.proofs.put_head.Tie as tie
 

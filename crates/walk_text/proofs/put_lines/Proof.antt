@@ -3,7 +3,8 @@ use borrow.Author.Needs.{needs}
 use mathlib.Core.Path.{_≡_, subst}
 use Prim.Native.Nat.{ℕ, _+_, _*_, _-_, _≤_}
 use native.Mathlib.Omega.{arith}
-use Rattle.walk_text.specs.Parts.{Put, linesAt}
+use Rattle.text.specs.Put.{Put}
+use Rattle.walk_text.specs.Parts.{linesAt}
 use Rattle.walk_text.proofs.PutLaws.{no-line, next-line}
 use Rattle.walk_text.proofs.put_lines.Statement.{statement}
 use Rattle.walk_text.proofs.put_lines.Tie as tie

@@ -1,0 +1,92 @@
+// The calls that are measured, and plans to measure them with: as bytes, and as plain C has them.
+#pragma once
+#include <cstddef>
+#include <cstdint>
+#include <string>
+#include <vector>
+
+extern "C" {
+#include "baseline.h"
+#include "hisowake.h"
+// the calls on a state, in loops (crate bench_calls); a slice is a pointer and a length
+uint64_t bench_blocks(const uint8_t *plan, size_t plan_len, uint64_t start, uint64_t rounds, uint64_t *out, size_t out_len);
+uint64_t bench_jumps(const uint8_t *plan, size_t plan_len, uint64_t first, uint64_t rounds, uint64_t *out, size_t out_len);
+uint64_t bench_axis_jumps(uint64_t family, uint64_t base, uint64_t first, uint64_t rounds);
+uint64_t bench_steps(const uint8_t *plan, size_t plan_len, uint64_t start, uint64_t rounds, uint64_t *out, size_t out_len);
+uint64_t bench_steps_in_place(const uint8_t *plan, size_t plan_len, uint64_t start, uint64_t rounds, uint64_t *out, size_t out_len);
+uint64_t bench_counts(const uint8_t *plan, size_t plan_len, uint64_t start, uint64_t count, const uint64_t *window, size_t window_len,
+                      uint64_t rounds);
+}
+
+struct Case {
+    std::string name;
+    plan_t plan;
+    std::vector<uint8_t> bytes;
+};
+
+static void put_bits(std::vector<uint8_t> &bytes, unsigned &at, unsigned width, unsigned value) {
+    for (unsigned i = width; i-- > 0; at++) {
+        if (at / 8 == bytes.size())
+            bytes.push_back(0);
+        bytes[at / 8] |= (value >> i & 1) << (7 - at % 8);
+    }
+}
+
+static Case halton(const char *name, int family, std::vector<unsigned> bases) {
+    Case c{name, {}, {}};
+    unsigned at = 0;
+    c.plan.family = family;
+    c.plan.axes = (int)bases.size();
+    put_bits(c.bytes, at, 2, (unsigned)family);
+    put_bits(c.bytes, at, 3, (unsigned)bases.size());
+    for (size_t i = 0; i < bases.size(); i++) {
+        c.plan.base[i] = bases[i];
+        put_bits(c.bytes, at, 8, bases[i] - 1);
+    }
+    return c;
+}
+
+// An axis of a Sobol plan: the degree, the coefficients as a number, and the m's.
+struct Axis {
+    unsigned degree, coefficients;
+    std::vector<unsigned> m;
+};
+
+static Case sobol(const char *name, const std::vector<Axis> &axes) {
+    Case c{name, {}, {}};
+    unsigned at = 0;
+    c.plan.family = 2;
+    c.plan.axes = (int)axes.size();
+    put_bits(c.bytes, at, 2, 2);
+    put_bits(c.bytes, at, 3, (unsigned)axes.size());
+    for (size_t a = 0; a < axes.size(); a++) {
+        unsigned d = axes[a].degree;
+        std::vector<uint64_t> m(axes[a].m.begin(), axes[a].m.end());
+        put_bits(c.bytes, at, 4, d);
+        put_bits(c.bytes, at, d ? d - 1 : 0, axes[a].coefficients);
+        for (unsigned i = 0; i < d; i++)
+            put_bits(c.bytes, at, i + 1, (unsigned)m[i]);
+        for (unsigned i = d; i < 32; i++) {
+            uint64_t x = d ? m[i - d] ^ (m[i - d] << d) : 1;
+            for (unsigned k = 1; k < d; k++)
+                if (axes[a].coefficients >> (d - 1 - k) & 1)
+                    x ^= m[i - k] << k;
+            m.push_back(x);
+        }
+        for (unsigned i = 0; i < 32; i++)
+            c.plan.direction[a][i] = (uint32_t)(m[i] << (31 - i));
+    }
+    return c;
+}
+
+static const std::vector<Axis> SIX = {{0, 0, {}}, {1, 0, {1}}, {2, 1, {1, 3}}, {3, 1, {1, 3, 1}}, {3, 2, {1, 1, 1}}, {4, 1, {1, 1, 3, 3}}};
+
+static std::vector<Axis> first(size_t n) { return {SIX.begin(), SIX.begin() + (long)n}; }
+
+// Six axes of degree 12, the largest that a plan may have: the longest test of a state.
+static Case six_of_degree_12() {
+    std::vector<Axis> axes;
+    for (unsigned p : {0x1053u, 0x1069u, 0x107bu, 0x107du, 0x1099u, 0x10d1u})
+        axes.push_back({12, p >> 1 & 2047, std::vector<unsigned>(12, 1)});
+    return sobol("Sobol, 6 axes of degree 12", axes);
+}

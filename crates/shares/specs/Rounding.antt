@@ -1,0 +1,15 @@
+-- A window's share and the limit of its error, in nine decimals. Definitions only.
+use Prim.Native.Nat.{ℕ, _+_, _*_, _-_, _/_, _%_, _^_}
+use Rattle.shares.specs.declared.NineDecimals.{NineDecimals}
+
+-- S / N in billionths, to the nearest, halves up
+unfoldable pub shareOf : ℕ → ℕ → ℕ
+shareOf inside n = (inside * 10 ^ 9 + n / 2) / n
+
+-- bound / N in billionths, rounded up
+unfoldable pub limitOf : ℕ → ℕ → ℕ
+limitOf bound n = (bound * 10 ^ 9 + (n - 1)) / n
+
+-- a number of billionths
+abbrev pub billionths : ℕ → NineDecimals
+billionths x = record { whole = x / 10 ^ 9; part = x % 10 ^ 9 }
