@@ -14,7 +14,7 @@
  *   - no buffer that is written overlaps another buffer of the same call, and nothing else changes the buffers meanwhile.
  * A null pointer is fine where its length is 0.
  *
- * The stack is measured, on x86-64: hisowake_point takes less than 8 KiB and hisowake_window_count less than 24 KiB, for every family and
+ * The stack is measured, on x86-64: hisowake_point takes less than 8 KiB and hisowake_window_count less than 16 KiB, for every family and
  * number of axes.
  */
 #ifndef HISOWAKE_H
@@ -79,8 +79,7 @@ uint64_t hisowake_point(const uint8_t *plan, size_t plan_len, uint64_t index, ui
  *
  * Refuses, in this order: 1 to 10 as the plan is read, field by field; 11; 14; 13.
  *
- * The time grows with count times the number of axes. The working arrays are 13 KiB of the stack: 8 KiB of numerators, 1 KiB of flags and 4 KiB
- * of tables.
+ * The time grows with count times the number of axes. The working arrays are 7.25 KiB of the stack: 4 KiB of flags and 3.25 KiB of tables.
  */
 uint64_t hisowake_window_count(const uint8_t *plan, size_t plan_len, uint64_t start, uint64_t count, const uint8_t *window, size_t window_len,
                                uint8_t *out, size_t out_len);

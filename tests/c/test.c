@@ -7,7 +7,7 @@
 
 #include <ucontext.h>
 
-enum { OUT_MAX = 64, STACK = 65536, POINT_STACK = 8192, COUNT_STACK = 24576, PAINT = 0xA5, SEED = 20260517 };
+enum { OUT_MAX = 64, STACK = 65536, POINT_STACK = 8192, COUNT_STACK = 16384, PAINT = 0xA5, SEED = 20260517 };
 
 #define BYTES(...) (const uint8_t[]){__VA_ARGS__}, sizeof((const uint8_t[]){__VA_ARGS__})
 #define NUMERATORS(...) sizeof((const uint64_t[]){__VA_ARGS__}) / 8, (const uint64_t[]){__VA_ARGS__}

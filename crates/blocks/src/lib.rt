@@ -8,7 +8,7 @@ ghost use Rattle.points.specs.Arrays.{numeratorFrom, pointsAt, Arrays};
 ghost use Rattle.blocks.specs.Tables.{AllMade};
 
 // Writes column `j` of the rows `lo` to `hi`, which have `s` words each: the numerators of axis `i`, row 0 being index `n`.
-pub fn fill_column(
+fn fill_column(
     family: u64,
     axes: usize,
     bases: &[u64],

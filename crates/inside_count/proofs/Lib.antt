@@ -1,2 +1,2 @@
 -- Laws of the walk over a run.
-pub mod MarkLaws
+pub mod FlagLaws

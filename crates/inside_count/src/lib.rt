@@ -1,13 +1,13 @@
-// How many points of a plan's run are inside a window, walked column by column with a flag a point.
+// How many points of a plan's run are inside a window, walked axis by axis with a flag a point.
 ghost use mathlib.Core.Path.{_≡_};
 ghost use mathlib.Core.Bool.{Bool};
 ghost use Prim.Native.Nat.{ℕ, _+_, _*_, _^_, _<_, _≤_};
-ghost use lib.Dec.{ltb};
 ghost use lib.ListN.{length};
 ghost use Rattle.numbers.specs.Count.{count};
-ghost use Rattle.points.specs.Arrays.{Arrays};
+ghost use Rattle.points.specs.Arrays.{numeratorFrom, Arrays};
+ghost use Rattle.marks.specs.Marking.{Marked};
 ghost use Rattle.window.specs.Walking.{insideFrom, Room};
-ghost use Rattle.inside_count.specs.Marking.{cutLimit, keepIf, Flags, Marked};
+ghost use Rattle.inside_count.specs.Flagging.{cutLimit, Flags};
 
 // The least numerator over `d` that is not below the cut u / q: one division a cut saves a product a point.
 fn cut_limit(u: u64, q: u64, d: u64) -> u64
@@ -17,28 +17,33 @@ fn cut_limit(u: u64, q: u64, d: u64) -> u64
     (u * d + (q - 1)) / q
 }
 
-// The flag `f` where `x` is below `limit`, else 0.
-fn keep(x: u64, limit: u64, f: u8) -> u8
-    ensures { λ r. ⌜ r ≡ keepIf (ltb x limit) f ⌝ }
+// Clears the flags of those of the first `m` points from index `n` on that are not below `limit` on axis `i`.
+fn mark_axis(
+    family: u64,
+    axes: usize,
+    bases: &[u64],
+    directions: &[u64],
+    i: usize,
+    n: u64,
+    m: usize,
+    limit: u64,
+    l: &mut [u8],
+)
+    requires { ⌜ Arrays family axes (now bases) (now directions) × (i < axes) × (n + m ≤ 2 ^ 32) × (m ≤ length (now l)) ⌝ }
+    ensures { λ r. ⌜ Marked (numeratorFrom family (now (bases .entry)) (now (directions .entry)) n i) limit 0 m (now (l .entry)) (now (l .exit)) ⌝ }
 {
-    if x < limit { f } else { 0 }
-}
-
-// Tests the first `m` numerators of `x`, and clears the flags of those that are not below their cut.
-fn mark(x: &[u64], limit: u64, m: usize, l: &mut [u8])
-    requires { ⌜ (m ≤ length (now x)) × (m ≤ length (now l)) ⌝ }
-    ensures { λ r. ⌜ Marked limit m (now (x .entry)) (now (l .entry)) (now (l .exit)) ⌝ }
-{
-    let mut i = 0;
-    while i < m {
-        l[i] = keep(x[i], limit, l[i]);
-        i += 1;
+    if family == 2 {
+        let first = 32 * i;
+        let last = first + 32;
+        sobol_marks::sobol_marks(&directions[first..last], n, m, limit, l);
+        return;
     }
+    halton_marks::halton_marks(family, bases[i], n, m, limit, l);
 }
 
 // How many of the first `m` flags are set.
 fn total(l: &[u8], m: usize) -> u64
-    requires { ⌜ (m ≤ length (now l)) × (m ≤ 1024) ⌝ }
+    requires { ⌜ (m ≤ length (now l)) × (m ≤ 4096) ⌝ }
     ensures { λ r. ⌜ ((p : ℕ → Bool) → Flags p m (now (l .entry)) → r ≡ count p m) ⌝ }
 {
     let mut t = 0;
@@ -60,17 +65,15 @@ fn count_part(
     m: usize,
     w: &[u64],
 ) -> u64
-    requires { ⌜ Arrays family axes (now bases) (now directions) × (n + m ≤ 2 ^ 32) × (m ≤ 1024) × Room (now w) axes ⌝ }
+    requires { ⌜ Arrays family axes (now bases) (now directions) × (n + m ≤ 2 ^ 32) × (m ≤ 4096) × Room (now w) axes ⌝ }
     ensures { λ r. ⌜ r ≡ count (insideFrom family (now (bases .entry)) (now (directions .entry)) (now (w .entry)) axes n) m ⌝ }
 {
-    let mut x = [0u64; 1024];
-    let mut l = [1u8; 1024];
+    let mut l = [1u8; 4096];
     let mut i = 0;
     while i < axes {
-        blocks::fill_column(family, axes, bases, directions, i, n, 0, m, 1, 0, &mut x);
         let d = points::denominator(family, axes, bases, directions, i);
         let limit = cut_limit(w[2 * i], w[2 * i + 1], d);
-        mark(&x, limit, m, &mut l);
+        mark_axis(family, axes, bases, directions, i, n, m, limit, &mut l);
         i += 1;
     }
     total(&l, m)
@@ -92,7 +95,7 @@ pub fn count_inside(
     let mut t = 0;
     let mut i = 0;
     while i < k {
-        let end = columns::least(i + 1024, k);
+        let end = columns::least(i + 4096, k);
         t = t + count_part(family, axes, bases, directions, n + (i as u64), end - i, w);
         i = end;
     }

@@ -5,7 +5,7 @@ use native.Mathlib.Omega.{arith}
 use Rattle.numbers.specs.Count.{count}
 use Rattle.window.specs.Walking.{insideFrom}
 use Rattle.numbers.proofs.CountLaws.{count-le}
-use Rattle.inside_count.proofs.MarkLaws.{parts-join, count-none}
+use Rattle.inside_count.proofs.FlagLaws.{parts-join, count-none}
 use Rattle.inside_count.proofs.count_inside.Statement.{statement}
 use Rattle.inside_count.proofs.count_inside.Tie as tie
 

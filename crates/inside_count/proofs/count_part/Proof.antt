@@ -7,16 +7,16 @@ use lib.ListN.{length}
 use Rattle.points.proofs.ArrayLaws.{denominator-at-lt}
 use Rattle.window.specs.Counting.{uOf, qOf}
 use Rattle.window.specs.Walking.{insideFrom}
-use Rattle.inside_count.specs.Marking.{cutLimit, Flags}
-use Rattle.inside_count.proofs.MarkLaws.{flags-none, flags-more}
+use Rattle.inside_count.specs.Flagging.{cutLimit, Flags}
+use Rattle.inside_count.proofs.FlagLaws.{flags-none, flags-more}
 use Rattle.inside_count.proofs.count_part.Statement.{statement}
 use Rattle.inside_count.proofs.count_part.Tie as tie
 
 abbrev Inv-loop : tie.InvT-loop
-Inv-loop family axes bases directions n m w x₀ l₀ i₀ x l i = (i ≤ axes) × Flags (insideFrom family bases directions w i n) m l × (length x ≡ 1024) × (length l ≡ 1024)
+Inv-loop family axes bases directions n m w l₀ i₀ l i = (i ≤ axes) × Flags (insideFrom family bases directions w i n) m l × (length l ≡ 4096)
 
 abbrev μ-loop : tie.MeasureT-loop
-μ-loop family axes bases directions n m w x₀ l₀ i₀ x l i = axes - i
+μ-loop family axes bases directions n m w l₀ i₀ l i = axes - i
 
 -- the axis's u and q stand in the window
 room : (c : tie.In-loop Inv-loop μ-loop) → (2 * c .before .loop .i + 1 < length (c .before .before .before .before .before .args .w .now)) × (c .before .loop .i < 6)
@@ -25,74 +25,64 @@ room c =
     (omega (arith, s .pre .3 .enough), omega (arith, s .pre .0 .few))
 
 loop-holds : tie.Need-loop-holds Inv-loop μ-loop
-loop-holds c = (omega arith, flags-none _ _ _ _ _ _ (omega arith), refl, refl)
-
-slice-aggregate-fill-column : tie.Need-slice-aggregate-fill-column Inv-loop μ-loop
-slice-aggregate-fill-column c = search needs
-
-fill-column-requires : tie.Need-fill-column-requires Inv-loop μ-loop
-fill-column-requires c κs =
-    let s = c .before .before .before .before .before .before in
-    ((s .pre .0, omega arith), (omega arith, omega arith, omega arith, omega arith))
+loop-holds c = (omega arith, flags-none _ _ _ _ _ _ (omega arith), refl)
 
 denominator-requires : tie.Need-denominator-requires Inv-loop μ-loop
-denominator-requires c κs = (c .before .before .before .before .before .before .before .before .pre .0, omega arith)
+denominator-requires c κs = (c .before .before .before .before .before .pre .0, omega arith)
 
 mul-cut-limit : tie.Need-mul-cut-limit Inv-loop μ-loop
-mul-cut-limit c = omega (arith, room (c .before .before .before .before))
+mul-cut-limit c = omega (arith, room (c .before))
 
 mul-cut-limit-2 : tie.Need-mul-cut-limit-2 Inv-loop μ-loop
-mul-cut-limit-2 c = omega (arith, room (c .before .before .before .before))
+mul-cut-limit-2 c = omega (arith, room (c .before))
 
 shared-slice-read-cut-limit : tie.Need-shared-slice-read-cut-limit Inv-loop μ-loop
-shared-slice-read-cut-limit c = omega (arith, room (c .before .before .before .before .before))
+shared-slice-read-cut-limit c = omega (arith, room (c .before .before))
 
 mul-cut-limit-3 : tie.Need-mul-cut-limit-3 Inv-loop μ-loop
-mul-cut-limit-3 c = omega (arith, room (c .before .before .before .before .before))
+mul-cut-limit-3 c = omega (arith, room (c .before .before))
 
 add-cut-limit : tie.Need-add-cut-limit Inv-loop μ-loop
-add-cut-limit c = omega (arith, room (c .before .before .before .before .before))
+add-cut-limit c = omega (arith, room (c .before .before))
 
 mul-cut-limit-4 : tie.Need-mul-cut-limit-4 Inv-loop μ-loop
-mul-cut-limit-4 c = omega (arith, room (c .before .before .before .before .before))
+mul-cut-limit-4 c = omega (arith, room (c .before .before))
 
 shared-slice-read-cut-limit-2 : tie.Need-shared-slice-read-cut-limit-2 Inv-loop μ-loop
-shared-slice-read-cut-limit-2 c = omega (arith, room (c .before .before .before .before .before .before))
+shared-slice-read-cut-limit-2 c = omega (arith, room (c .before .before .before))
 
 cut-limit-requires : tie.Need-cut-limit-requires Inv-loop μ-loop
 cut-limit-requires c κs =
-    let s = c .before .before .before .before .before .before .before .before .before .before .before in
-    let i = c .before .before .before .before .before .before .before .loop .i in
+    let s = c .before .before .before .before .before .before .before .before in
+    let i = c .before .before .before .before .loop .i in
     let d = c .before .before .denominator in
     (s .pre .3 .u-small i (omega arith), s .pre .3 .q-pos i (omega arith), s .pre .3 .q-small i (omega arith), omega (arith, d .ensures, denominator-at-lt (s .pre .0) i (omega arith)))
 
-slice-aggregate-mark : tie.Need-slice-aggregate-mark Inv-loop μ-loop
-slice-aggregate-mark c = search needs
+slice-aggregate-mark-axis : tie.Need-slice-aggregate-mark-axis Inv-loop μ-loop
+slice-aggregate-mark-axis c = search needs
 
-slice-aggregate-mark-2 : tie.Need-slice-aggregate-mark-2 Inv-loop μ-loop
-slice-aggregate-mark-2 c = search needs
-
-mark-requires : tie.Need-mark-requires Inv-loop μ-loop
-mark-requires c κs = omega (arith, c .before .before .before .before .before .before .before .fill-column .ensures .same-length, c .before .before .before .before .before .before .before .before .before .before .loop .inv .2, c .before .before .before .before .before .before .before .before .before .before .loop .inv .3)
+mark-axis-requires : tie.Need-mark-axis-requires Inv-loop μ-loop
+mark-axis-requires c κs =
+    let s = c .before .before .before .before .before .before .before .before .before .before in
+    (s .pre .0, omega arith, omega arith, omega (arith, c .before .before .before .before .before .before .loop .inv .2))
 
 add-i : tie.Need-add-i Inv-loop μ-loop
-add-i c = omega (arith, c .before .before .before .before .before .before .before .before .before .before .before .before .before .before .before .before .pre .0 .few)
+add-i c = omega (arith, c .before .before .before .before .before .before .before .before .before .before .before .before .pre .0 .few)
 
 loop-less : tie.Need-loop-less Inv-loop μ-loop
 loop-less c = omega arith
 
 loop-again : tie.Need-loop-again Inv-loop μ-loop
 loop-again c =
-    let s = c .before .before .before .before .before .before .before .before .before .before .before .before .before .before .before .before in
+    let s = c .before .before .before .before .before .before .before .before .before .before .before .before in
     let a = s .args in
-    let l = c .before .before .before .before .before .before .before .before .before .before .before .before .loop in
-    let f = c .before .before .before .before .before .before .before .before .before .fill-column .ensures in
-    let d = c .before .before .before .before .before .before .before .denominator .ensures in (
+    let l = c .before .before .before .before .before .before .before .before .loop in
+    let d = c .before .before .before .before .before .before .denominator .ensures in
+    let k = c .before .mark-axis .ensures in (
       omega arith,
-      flags-more (a .family) (a .bases .now) (a .directions .now) (a .w .now) (a .n) (l .i) (a .m) _ _ _ _ _ (l .inv .1) f (c .before .mark .ensures)
-          (c .before .before .before .before .cut-limit .ensures ∙ ap (cutLimit (uOf (a .w .now) (l .i)) (qOf (a .w .now) (l .i))) d) (s .pre .3 .q-pos (l .i) (omega arith)),
-      f .same-length ∙ l .inv .2,
-      c .before .mark .ensures .same-length ∙ l .inv .3,
+      flags-more (a .family) (a .bases .now) (a .directions .now) (a .w .now) (a .n) (l .i) (a .m) _ _ _ (l .inv .1) k
+          (c .before .before .before .cut-limit .ensures ∙ ap (cutLimit (uOf (a .w .now) (l .i)) (qOf (a .w .now) (l .i))) d) (s .pre .3 .q-pos (l .i) (omega arith)),
+      k .same-length ∙ l .inv .2,
     )
 
 slice-aggregate-total : tie.Need-slice-aggregate-total Inv-loop μ-loop
@@ -116,8 +106,6 @@ count-part-spec =
     Inv-loop
     μ-loop
     loop-holds
-    slice-aggregate-fill-column
-    fill-column-requires
     denominator-requires
     mul-cut-limit
     mul-cut-limit-2
@@ -127,9 +115,8 @@ count-part-spec =
     mul-cut-limit-4
     shared-slice-read-cut-limit-2
     cut-limit-requires
-    slice-aggregate-mark
-    slice-aggregate-mark-2
-    mark-requires
+    slice-aggregate-mark-axis
+    mark-axis-requires
     add-i
     loop-less
     loop-again

@@ -4,7 +4,7 @@ use Prim.Native.Nat.{_-_, _*_, _^_, _≤_}
 use native.Mathlib.Nat.{mul-le-mul}
 use native.Mathlib.Omega.{arith}
 use borrow.Author.Needs.{needs}
-use Rattle.inside_count.specs.Marking.{cutLimit}
+use Rattle.inside_count.specs.Flagging.{cutLimit}
 use Rattle.inside_count.proofs.cut_limit.Statement.{statement}
 use Rattle.inside_count.proofs.cut_limit.Tie as tie
 

@@ -4,8 +4,8 @@ use mathlib.Core.Path.{_≡_, sym, ap, ap₂, _∙_}
 use mathlib.Core.Bool.{Bool}
 use Prim.Native.Nat.{ℕ, _+_, _-_, _*_, _≤_}
 use Rattle.numbers.specs.Count.{count}
-use Rattle.inside_count.specs.Marking.{Flags}
-use Rattle.inside_count.proofs.MarkLaws.{count-more, count-none}
+use Rattle.inside_count.specs.Flagging.{Flags}
+use Rattle.inside_count.proofs.FlagLaws.{count-more, count-none}
 use Rattle.inside_count.proofs.total.Statement.{statement}
 use Rattle.inside_count.proofs.total.Tie as tie
 

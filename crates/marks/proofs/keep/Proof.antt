@@ -1,8 +1,8 @@
--- `inside_count::keep` meets its contract: one law a return. Assumes nothing.
+-- `marks::keep` meets its contract: one law a return. Assumes nothing.
 use native.Mathlib.Omega.{arith}
-use Rattle.inside_count.proofs.MarkLaws.{keep-yes, keep-no}
-use Rattle.inside_count.proofs.keep.Statement.{statement}
-use Rattle.inside_count.proofs.keep.Tie as tie
+use Rattle.marks.proofs.MarkLaws.{keep-yes, keep-no}
+use Rattle.marks.proofs.keep.Statement.{statement}
+use Rattle.marks.proofs.keep.Tie as tie
 
 returns : tie.Need-returns
 returns c = let a = c .before .args in keep-yes (a .x) (a .limit) (a .f) (omega arith)

@@ -7,17 +7,28 @@ use native.Mathlib.Nat.{add-assoc, le-refl, add-mul, le-div-iff-mul-le}
 use native.Mathlib.Numerals.{add-one}
 use native.Mathlib.Omega.{arith}
 use lib.Dec.{ltb}
-use lib.ListN.{getD, replicate, getD-replicate}
-use borrow.Author.Tests.{lt-ltb, le-ltb}
+use lib.ListN.{length, take, drop, getD, replicate, getD-replicate}
 use Rattle.numbers.specs.Count.{bit, count}
 use Rattle.numbers.specs.Cut.{belowCut}
 use Rattle.numbers.proofs.Cases.{lt-iff}
 use Rattle.numbers.proofs.CountLaws.{count-ext, count-parts}
-use Rattle.columns.specs.Rows.{Column}
-use Rattle.points.specs.Arrays.{numeratorAt, numeratorFrom, denominatorAt}
+use Rattle.marks.specs.Marking.{keepIf, Marked}
+use Rattle.sobol_tables.specs.Tables.{Directions}
+use Rattle.points.specs.Arrays.{numeratorAt, numeratorFrom, denominatorAt, Arrays}
+use Rattle.points.proofs.ArrayLaws.{numerator-at-lt, numerator-by-part, denominator-by-two}
 use Rattle.window.specs.Counting.{uOf, qOf}
 use Rattle.window.specs.Walking.{insideBy, insideFrom}
-use Rattle.inside_count.specs.Marking.{cutLimit, keepIf, Flags, marked, Marked}
+use Rattle.inside_count.specs.Flagging.{cutLimit, Flags}
+
+-- ---- the direction numbers of an axis
+
+-- the code's part of the array has 32 of them, and every point by them is below the denominator
+pub directions-of : {family axes : ℕ} {bases vs : List ℕ} → Arrays family axes bases vs → (i : ℕ) → i < axes → family ≡ 2
+    → length (take (32 * i + 32 - 32 * i) (drop (32 * i) vs)) ≡ 32 → Directions (take (32 * i + 32 - 32 * i) (drop (32 * i) vs))
+directions-of {family} {axes} {bases} {vs} a i h e k = record {
+  long = k;
+  low = λ n. omega (arith, numerator-at-lt a i h n, numerator-by-part family bases vs n i e, denominator-by-two family bases i e);
+}
 
 -- ---- flags
 
@@ -32,14 +43,6 @@ limit-cut x d u q pos = lt-iff x ((u * d + (q - 1)) / q) (x * q) (u * d) (λ h. 
     back : x * q < u * d → x < (u * d + (q - 1)) / q
     back h = omega (arith, le-div-iff-mul-le {k = q} {x = x + 1} {y = u * d + (q - 1)} pos .1 (omega (arith, add-mul x 1 q)))
 
-pub keep-yes : (a b f : ℕ) → a < b → f ≡ keepIf (ltb a b) f
-unfolding keepIf
-keep-yes a b f h = rw (lt-ltb a b h) refl
-
-pub keep-no : (a b f : ℕ) → b ≤ a → 0 ≡ keepIf (ltb a b) f
-unfolding keepIf
-keep-no a b f h = rw (le-ltb a b h) refl
-
 keep-bit : (a b : Bool) → keepIf b (bit a) ≡ bit (a && b)
 unfolding keepIf
 keep-bit true true = refl
@@ -49,26 +52,21 @@ keep-bit false false = refl
 
 module _ (family : ℕ) (bases vs w : List ℕ) (n : ℕ) where
   -- no axis yet
-  pub flags-none : (m : ℕ) → m ≤ 1024 → Flags (insideFrom family bases vs w 0 n) m (replicate 1024 1)
+  pub flags-none : (m : ℕ) → m ≤ 4096 → Flags (insideFrom family bases vs w 0 n) m (replicate 4096 1)
   unfolding insideFrom insideBy
-  flags-none m h = record { at = λ i l. getD-replicate 1024 i 1 0 (omega arith) }
-
-  -- what a column holds
-  column-at : (s m : ℕ) (x₀ x : List ℕ) → Column (numeratorFrom family bases vs n s) 0 m 1 0 x₀ x → (i : ℕ) → i < m → getD x i 0 ≡ numeratorAt family bases vs (n + i) s
-  unfolding numeratorFrom
-  column-at s m x₀ x c i h = ap (λ (y : ℕ). getD x y 0) {x = i} {y = i * 1 + 0} (omega arith) ∙ c .wrote i (omega arith) h
+  flags-none m h = record { at = λ i l. getD-replicate 4096 i 1 0 (omega arith) }
 
   -- one axis more
-  pub flags-more : (s m limit : ℕ) (x₀ x l new : List ℕ) → Flags (insideFrom family bases vs w s n) m l
-      → Column (numeratorFrom family bases vs n s) 0 m 1 0 x₀ x → Marked limit m x l new
+  pub flags-more : (s m limit : ℕ) (l new : List ℕ) → Flags (insideFrom family bases vs w s n) m l
+      → Marked (numeratorFrom family bases vs n s) limit 0 m l new
       → limit ≡ cutLimit (uOf w s) (qOf w s) (denominatorAt family bases s) → 1 ≤ qOf w s → Flags (insideFrom family bases vs w (s + 1) n) m new
-  unfolding insideFrom insideBy marked
-  flags-more s m limit x₀ x l new f c k e pos = record { at = one }
+  unfolding insideFrom insideBy numeratorFrom
+  flags-more s m limit l new f k e pos = record { at = one }
     where
       one : (i : ℕ) → i < m → getD new i 0 ≡ bit (insideBy family bases vs w (n + i) (s + 1))
       one i h =
-          k .at i h
-          ∙ rw (column-at s m x₀ x c i h, f .at i h, e, limit-cut (numeratorAt family bases vs (n + i) s) (denominatorAt family bases s) (uOf w s) (qOf w s) pos, add-one s)
+          k .tested i (omega arith) h
+          ∙ rw (f .at i h, e, limit-cut (numeratorAt family bases vs (n + i) s) (denominatorAt family bases s) (uOf w s) (qOf w s) pos, add-one s)
           (keep-bit (insideBy family bases vs w (n + i) s) (belowCut (numeratorAt family bases vs (n + i) s) (denominatorAt family bases s) (uOf w s) (qOf w s)))
 
   -- ---- parts of a run

@@ -1,0 +1,2 @@
+-- Laws of the test.
+pub mod LeftLaws
