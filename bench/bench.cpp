@@ -1,5 +1,5 @@
 // The calls beside their peers, in one run: nanoseconds a point or a call, and how many times as long the peer takes. Each figure is the least
-// of several rounds. First it is checked that ours and plain C write the same points.
+// of 15 rounds or more. First it is checked that ours and plain C write the same points.
 #include <algorithm>
 #include <chrono>
 #include <cstdio>
@@ -70,7 +70,7 @@ static void line(const std::string &name, double ours, const char *unit, std::ve
 static double gsl_point(const gsl_qrng_type *type, unsigned axes) {
     gsl_qrng *q = gsl_qrng_alloc(type, axes);
     double v[6];
-    double t = least(5, [&] { for (int i = 0; i < 100000; i++) gsl_qrng_get(q, v); }) / 100000;
+    double t = least(15, [&] { for (int i = 0; i < 100000; i++) gsl_qrng_get(q, v); }) / 100000;
     gsl_qrng_free(q);
     return t;
 }
@@ -78,17 +78,40 @@ static double gsl_point(const gsl_qrng_type *type, unsigned axes) {
 static double boost_point(size_t axes) {
     boost::random::sobol_engine<uint32_t, 32> e(axes);
     volatile uint32_t sink = 0;
-    return least(5, [&] { for (size_t i = 0; i < 100000 * axes; i++) sink = e(); }) / 100000;
+    return least(15, [&] { for (size_t i = 0; i < 100000 * axes; i++) sink = e(); }) / 100000;
 }
 
 static double quantlib_halton(size_t axes) {
     QuantLib::HaltonRsg r(axes, 0, false, false);
-    return least(5, [&] { for (int i = 0; i < 20000; i++) r.nextSequence(); }) / 20000;
+    return least(15, [&] { for (int i = 0; i < 20000; i++) r.nextSequence(); }) / 20000;
 }
 
 static double quantlib_sobol(size_t axes) {
     QuantLib::SobolRsg r(axes);
-    return least(5, [&] { for (int i = 0; i < 100000; i++) r.nextInt32Sequence(); }) / 100000;
+    return least(15, [&] { for (int i = 0; i < 100000; i++) r.nextInt32Sequence(); }) / 100000;
+}
+
+// A jump to an index and the point there; GSL has no jump, and QuantLib none for Halton.
+static double boost_jump(size_t axes) {
+    boost::random::sobol_engine<uint32_t, 32> e(axes);
+    volatile uint32_t sink = 0;
+    return least(21, [&] {
+               for (uint32_t i = 0; i < 1000; i++) {
+                   e.seed(123456789 ^ i);
+                   for (size_t a = 0; a < axes; a++)
+                       sink = e();
+               }
+           }) / 1000;
+}
+
+static double quantlib_jump(size_t axes) {
+    QuantLib::SobolRsg r(axes);
+    return least(21, [&] {
+               for (uint32_t i = 0; i < 1000; i++) {
+                   r.skipTo(123456789 ^ i);
+                   r.nextInt32Sequence();
+               }
+           }) / 1000;
 }
 
 static bool is_first_primes(const Case &c) {
@@ -101,9 +124,9 @@ static void blocks(const std::vector<Case> &all) {
     for (const Case &c : all) {
         size_t n = 100000, s = (size_t)c.plan.axes;
         std::vector<uint64_t> out(n * s);
-        double ours = least(7, [&] { bench_blocks(c.bytes.data(), c.bytes.size(), 12345, 1, out.data(), out.size()); }) / (double)n;
+        double ours = least(41, [&] { bench_blocks(c.bytes.data(), c.bytes.size(), 12345, 1, out.data(), out.size()); }) / (double)n;
         std::vector<std::pair<const char *, double>> peers;
-        peers.push_back({"C", least(7, [&] { baseline_block(&c.plan, 12345, n, out.data()); }) / (double)n});
+        peers.push_back({"C", least(41, [&] { baseline_block(&c.plan, 12345, n, out.data()); }) / (double)n});
         if (is_first_primes(c)) {
             peers.push_back({"GSL", gsl_point(gsl_qrng_halton, (unsigned)s)});
             peers.push_back({"QuantLib", quantlib_halton(s)});
@@ -123,8 +146,8 @@ static void small_blocks(const std::vector<Case> &all) {
         for (size_t n : {1u, 64u}) {
             size_t s = (size_t)c.plan.axes;
             std::vector<uint64_t> out(n * s);
-            double ours = least(5, [&] { bench_blocks(c.bytes.data(), c.bytes.size(), 12345, 200, out.data(), out.size()); }) / 200;
-            double plain = least(5, [&] { for (int i = 0; i < 200; i++) baseline_block(&c.plan, 12345, n, out.data()); }) / 200;
+            double ours = least(21, [&] { bench_blocks(c.bytes.data(), c.bytes.size(), 12345, 200, out.data(), out.size()); }) / 200;
+            double plain = least(21, [&] { for (int i = 0; i < 200; i++) baseline_block(&c.plan, 12345, n, out.data()); }) / 200;
             line(c.name + ", " + std::to_string(n), ours, "ns", {{"C", plain}});
         }
 }
@@ -137,8 +160,8 @@ static void counts(const std::vector<Case> &all) {
             window[2 * a] = (uint64_t)a + 1;
             window[2 * a + 1] = (uint64_t)a + 2;
         }
-        double ours = least(5, [&] { s = bench_counts(c.bytes.data(), c.bytes.size(), 12345, n, window, 2 * (size_t)c.plan.axes, 1); }) / (double)n;
-        double c_time = least(5, [&] { plain = baseline_count(&c.plan, 12345, n, window); }) / (double)n;
+        double ours = least(21, [&] { s = bench_counts(c.bytes.data(), c.bytes.size(), 12345, n, window, 2 * (size_t)c.plan.axes, 1); }) / (double)n;
+        double c_time = least(21, [&] { plain = baseline_count(&c.plan, 12345, n, window); }) / (double)n;
         check(s == plain, c.name + ": S");
         line(c.name, ours, "ns", {{"C", c_time}});
     }
@@ -149,8 +172,8 @@ static void axis_jumps() {
     for (int family : {0, 1})
         for (unsigned b : {2u, 3u, 13u, 241u, 256u}) {
             uint64_t ours_sum = 0, plain_sum = 0, reciprocal = UINT64_MAX / b + 1, first = 123456789;
-            double ours = least(9, [&] { ours_sum = bench_axis_jumps((uint64_t)family, b, first, 10000); }) / 10000;
-            double plain = least(9, [&] {
+            double ours = least(41, [&] { ours_sum = bench_axis_jumps((uint64_t)family, b, first, 10000); }) / 10000;
+            double plain = least(41, [&] {
                 plain_sum = 0;
                 for (uint64_t i = 0; i < 10000; i++)
                     plain_sum ^= baseline_axis_jump(family, b, reciprocal, first ^ i);
@@ -161,18 +184,22 @@ static void axis_jumps() {
 }
 
 static void calls(const std::vector<Case> &all) {
-    printf("\n## One call: ns\n\n| plan | jump | step | step in place | C point | C jump with tables and reciprocals made beforehand |\n|---|---|---|---|---|---|\n");
+    printf("\n## One call: ns\n\n| plan | jump | step | step in place | C point | plain C jump, tables and reciprocals made beforehand | Boost | QuantLib |\n|---|---|---|---|---|---|---|---|\n");
     for (const Case &c : all) {
         uint64_t out[6];
         uint8_t bytes[48];
         jumper_t j;
         baseline_prepare(&c.plan, &j);
-        double jump = least(5, [&] { bench_jumps(c.bytes.data(), c.bytes.size(), 123456789, 1000, out, 6); }) / 1000;
-        double step = least(5, [&] { bench_steps(c.bytes.data(), c.bytes.size(), 123456789, 1000, out, 6); }) / 1000;
-        double place = least(5, [&] { bench_steps_in_place(c.bytes.data(), c.bytes.size(), 123456789, 1000, out, 6); }) / 1000;
-        double point = least(5, [&] { for (uint64_t i = 0; i < 1000; i++) hisowake_point(c.bytes.data(), c.bytes.size(), 123456789 ^ i, bytes, 48); }) / 1000;
-        double plain = least(5, [&] { for (uint64_t i = 0; i < 1000; i++) baseline_jump(&j, 123456789 ^ i, out); }) / 1000;
-        printf("| %-34s | %.0f | %.0f | %.0f | %.0f | %.0f |\n", c.name.c_str(), jump, step, place, point, plain);
+        double jump = least(21, [&] { bench_jumps(c.bytes.data(), c.bytes.size(), 123456789, 1000, out, 6); }) / 1000;
+        double step = least(21, [&] { bench_steps(c.bytes.data(), c.bytes.size(), 123456789, 1000, out, 6); }) / 1000;
+        double place = least(21, [&] { bench_steps_in_place(c.bytes.data(), c.bytes.size(), 123456789, 1000, out, 6); }) / 1000;
+        double point = least(21, [&] { for (uint64_t i = 0; i < 1000; i++) hisowake_point(c.bytes.data(), c.bytes.size(), 123456789 ^ i, bytes, 48); }) / 1000;
+        double plain = least(21, [&] { for (uint64_t i = 0; i < 1000; i++) baseline_jump(&j, 123456789 ^ i, out); }) / 1000;
+        printf("| %-34s | %.0f | %.0f | %.0f | %.0f | %.0f |", c.name.c_str(), jump, step, place, point, plain);
+        if (c.plan.family == 2)
+            printf(" %.0f | %.0f |\n", boost_jump((size_t)c.plan.axes), quantlib_jump((size_t)c.plan.axes));
+        else
+            printf(" - | - |\n");
     }
 }
 
