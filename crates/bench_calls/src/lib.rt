@@ -5,8 +5,8 @@ ghost use Prim.Native.Nat.{_≤_};
 
 // The state of a plan with a run opened.
 fn opened(plan: &[u8], start: u64, count: u64) -> Sampler {
-    let r = sampler::read(plan);
-    let o = sampler::open(r.state, start, count);
+    let r = plan_calls::read(plan);
+    let o = plan_calls::open(r.state, start, count);
     o.state
 }
 
@@ -17,7 +17,7 @@ pub extern "C" fn bench_blocks(plan: &[u8], start: u64, rounds: u64, out: &mut [
     let mut points = 0;
     let mut i = 0;
     while i < rounds {
-        let b = sampler::block(s, out);
+        let b = run_calls::block(s, out);
         points = b.points;
         i += 1;
     }
@@ -31,7 +31,7 @@ pub extern "C" fn bench_jumps(plan: &[u8], first: u64, rounds: u64, out: &mut [u
     let mut code = 0;
     let mut i = 0;
     while i < rounds {
-        let j = sampler::jump(s, (first ^ i) % 4294967296, out);
+        let j = index_calls::jump(s, (first ^ i) % 4294967296, out);
         code = j.code;
         i += 1;
     }
@@ -64,7 +64,7 @@ pub extern "C" fn bench_steps(plan: &[u8], start: u64, rounds: u64, out: &mut [u
     let mut code = 0;
     let mut i = 0;
     while i < rounds {
-        let r = sampler::step(s, out);
+        let r = run_calls::step(s, out);
         code = r.code;
         s = r.state;
         i += 1;

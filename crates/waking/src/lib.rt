@@ -9,6 +9,6 @@ pub fn wake(s: Sampler, point: &mut [u64]) -> Moved
     ensures { λ r. ⌜ (r ≡ stepSpec s (now (point .entry))) × (now (point .exit) ≡ stepBuf s (now (point .entry))) ⌝ }
 {
     let mut own = s;
-    let code = sampler::step_in_place(&mut own, point);
+    let code = run_calls::step_in_place(&mut own, point);
     Moved { code, state: own }
 }
