@@ -1,11 +1,13 @@
-// The calls beside their peers, in one run: nanoseconds a point or a call, and how many times as long the peer takes. Each figure is the least
-// of 15 rounds or more. First it is checked that ours and plain C write the same points.
+// The calls beside their peers, in one run: nanoseconds a point or a call, and how many times as long the peer takes. The programs of a row take
+// turns, and each figure is the least of 101 turns, so that a slow spell of the machine meets them all. First it is checked that ours and plain C
+// write the same points.
 #include <algorithm>
 #include <chrono>
 #include <cstdio>
 #include <cstdlib>
 #include <cstring>
 #include <functional>
+#include <memory>
 #include <string>
 #include <vector>
 
@@ -16,14 +18,23 @@
 
 #include "calls.hpp"
 
-static double least(int rounds, const std::function<void()> &work) {
-    double best = 1e300;
-    for (int i = 0; i < rounds; i++) {
-        auto t = std::chrono::steady_clock::now();
-        work();
-        std::chrono::duration<double, std::nano> d = std::chrono::steady_clock::now() - t;
-        best = std::min(best, d.count());
-    }
+// A program of a row: its name, and a turn, which makes so many points or calls.
+struct Program {
+    const char *name;
+    double makes;
+    std::function<void()> turn;
+};
+
+// Nanoseconds that each program takes for one point or call.
+static std::vector<double> race(const std::vector<Program> &programs) {
+    std::vector<double> best(programs.size(), 1e300);
+    for (int i = 0; i < 101; i++)
+        for (size_t k = 0; k < programs.size(); k++) {
+            auto t = std::chrono::steady_clock::now();
+            programs[k].turn();
+            std::chrono::duration<double, std::nano> d = std::chrono::steady_clock::now() - t;
+            best[k] = std::min(best[k], d.count() / programs[k].makes);
+        }
     return best;
 }
 
@@ -60,58 +71,52 @@ static void same(const Case &c) {
     }
 }
 
-static void line(const std::string &name, double ours, const char *unit, std::vector<std::pair<const char *, double>> peers) {
-    printf("| %-34s | %8.2f %-9s |", name.c_str(), ours, unit);
-    for (auto &p : peers)
-        printf(" %s %.2f (x %.2f)", p.first, p.second, p.second / ours);
+// Prints a row: the first program is ours.
+static void row(const std::string &name, const std::vector<Program> &programs) {
+    std::vector<double> ns = race(programs);
+    printf("| %-36s | %8.2f ns |", name.c_str(), ns[0]);
+    for (size_t k = 1; k < programs.size(); k++)
+        printf(" %s %.2f (x %.2f)", programs[k].name, ns[k], ns[k] / ns[0]);
     printf(" |\n");
 }
 
-static double gsl_point(const gsl_qrng_type *type, unsigned axes) {
-    gsl_qrng *q = gsl_qrng_alloc(type, axes);
-    double v[6];
-    double t = least(15, [&] { for (int i = 0; i < 100000; i++) gsl_qrng_get(q, v); }) / 100000;
-    gsl_qrng_free(q);
-    return t;
+static Program gsl_points(const gsl_qrng_type *type, unsigned axes) {
+    std::shared_ptr<gsl_qrng> q(gsl_qrng_alloc(type, axes), gsl_qrng_free);
+    return {"GSL", 100000, [q] { double v[6]; for (int i = 0; i < 100000; i++) gsl_qrng_get(q.get(), v); }};
 }
 
-static double boost_point(size_t axes) {
-    boost::random::sobol_engine<uint32_t, 32> e(axes);
-    volatile uint32_t sink = 0;
-    return least(15, [&] { for (size_t i = 0; i < 100000 * axes; i++) sink = e(); }) / 100000;
+using Engine = boost::random::sobol_engine<uint32_t, 32>;
+static volatile uint32_t sink;
+
+static Program boost_points(size_t axes) {
+    auto e = std::make_shared<Engine>(axes);
+    return {"Boost", 100000, [e, axes] { for (size_t i = 0; i < 100000 * axes; i++) sink = (*e)(); }};
 }
 
-static double quantlib_halton(size_t axes) {
-    QuantLib::HaltonRsg r(axes, 0, false, false);
-    return least(15, [&] { for (int i = 0; i < 20000; i++) r.nextSequence(); }) / 20000;
+static Program quantlib_halton(size_t axes) {
+    auto r = std::make_shared<QuantLib::HaltonRsg>(axes, 0, false, false);
+    return {"QuantLib", 20000, [r] { for (int i = 0; i < 20000; i++) r->nextSequence(); }};
 }
 
-static double quantlib_sobol(size_t axes) {
-    QuantLib::SobolRsg r(axes);
-    return least(15, [&] { for (int i = 0; i < 100000; i++) r.nextInt32Sequence(); }) / 100000;
+static Program quantlib_sobol(size_t axes) {
+    auto r = std::make_shared<QuantLib::SobolRsg>(axes);
+    return {"QuantLib", 100000, [r] { for (int i = 0; i < 100000; i++) r->nextInt32Sequence(); }};
+}
+
+// The indexes of a turn of 1,000 jumps.
+template <class Jump> static std::function<void()> jumps(Jump jump) {
+    return [jump] { for (uint32_t i = 0; i < 1000; i++) jump(123456789 ^ i); };
 }
 
 // A jump to an index and the point there; GSL has no jump, and QuantLib none for Halton.
-static double boost_jump(size_t axes) {
-    boost::random::sobol_engine<uint32_t, 32> e(axes);
-    volatile uint32_t sink = 0;
-    return least(21, [&] {
-               for (uint32_t i = 0; i < 1000; i++) {
-                   e.seed(123456789 ^ i);
-                   for (size_t a = 0; a < axes; a++)
-                       sink = e();
-               }
-           }) / 1000;
+static Program boost_jumps(size_t axes) {
+    auto e = std::make_shared<Engine>(axes);
+    return {"Boost", 1000, jumps([e, axes](uint32_t n) { e->seed(n); for (size_t a = 0; a < axes; a++) sink = (*e)(); })};
 }
 
-static double quantlib_jump(size_t axes) {
-    QuantLib::SobolRsg r(axes);
-    return least(21, [&] {
-               for (uint32_t i = 0; i < 1000; i++) {
-                   r.skipTo(123456789 ^ i);
-                   r.nextInt32Sequence();
-               }
-           }) / 1000;
+static Program quantlib_jumps(size_t axes) {
+    auto r = std::make_shared<QuantLib::SobolRsg>(axes);
+    return {"QuantLib", 1000, jumps([r](uint32_t n) { r->skipTo(n); r->nextInt32Sequence(); })};
 }
 
 static bool is_first_primes(const Case &c) {
@@ -124,19 +129,19 @@ static void blocks(const std::vector<Case> &all) {
     for (const Case &c : all) {
         size_t n = 100000, s = (size_t)c.plan.axes;
         std::vector<uint64_t> out(n * s);
-        double ours = least(41, [&] { bench_blocks(c.bytes.data(), c.bytes.size(), 12345, 1, out.data(), out.size()); }) / (double)n;
-        std::vector<std::pair<const char *, double>> peers;
-        peers.push_back({"C", least(41, [&] { baseline_block(&c.plan, 12345, n, out.data()); }) / (double)n});
+        std::vector<Program> programs = {
+            {"ours", (double)n, [&] { bench_blocks(c.bytes.data(), c.bytes.size(), 12345, 1, out.data(), out.size()); }},
+            {"C", (double)n, [&] { baseline_block(&c.plan, 12345, n, out.data()); }}};
         if (is_first_primes(c)) {
-            peers.push_back({"GSL", gsl_point(gsl_qrng_halton, (unsigned)s)});
-            peers.push_back({"QuantLib", quantlib_halton(s)});
+            programs.push_back(gsl_points(gsl_qrng_halton, (unsigned)s));
+            programs.push_back(quantlib_halton(s));
         }
         if (c.plan.family == 2) {
-            peers.push_back({"Boost", boost_point(s)});
-            peers.push_back({"GSL", gsl_point(gsl_qrng_sobol, (unsigned)s)});
-            peers.push_back({"QuantLib", quantlib_sobol(s)});
+            programs.push_back(boost_points(s));
+            programs.push_back(gsl_points(gsl_qrng_sobol, (unsigned)s));
+            programs.push_back(quantlib_sobol(s));
         }
-        line(c.name, ours, "ns", peers);
+        row(c.name, programs);
     }
 }
 
@@ -144,26 +149,24 @@ static void small_blocks(const std::vector<Case> &all) {
     printf("\n## A small block: ns a call, the state test included\n\n| plan | ours | plain C, tables made at each call |\n|---|---|---|\n");
     for (const Case &c : all)
         for (size_t n : {1u, 64u}) {
-            size_t s = (size_t)c.plan.axes;
-            std::vector<uint64_t> out(n * s);
-            double ours = least(21, [&] { bench_blocks(c.bytes.data(), c.bytes.size(), 12345, 200, out.data(), out.size()); }) / 200;
-            double plain = least(21, [&] { for (int i = 0; i < 200; i++) baseline_block(&c.plan, 12345, n, out.data()); }) / 200;
-            line(c.name + ", " + std::to_string(n), ours, "ns", {{"C", plain}});
+            std::vector<uint64_t> out(n * (size_t)c.plan.axes);
+            row(c.name + ", " + std::to_string(n),
+                {{"ours", 200, [&] { bench_blocks(c.bytes.data(), c.bytes.size(), 12345, 200, out.data(), out.size()); }},
+                 {"C", 200, [&] { for (int i = 0; i < 200; i++) baseline_block(&c.plan, 12345, n, out.data()); }}});
         }
 }
 
 static void counts(const std::vector<Case> &all) {
-    printf("\n## A window count over 1,000,000 points: ns a point\n\n| plan | ours | plain C |\n|---|---|---|\n");
+    printf("\n## A window count over 200,000 points: ns a point\n\n| plan | ours | plain C |\n|---|---|---|\n");
     for (const Case &c : all) {
-        uint64_t n = 1000000, window[12], s = 0, plain = 0;
+        uint64_t n = 200000, window[12], s = 0, plain = 0;
         for (int a = 0; a < c.plan.axes; a++) {
             window[2 * a] = (uint64_t)a + 1;
             window[2 * a + 1] = (uint64_t)a + 2;
         }
-        double ours = least(21, [&] { s = bench_counts(c.bytes.data(), c.bytes.size(), 12345, n, window, 2 * (size_t)c.plan.axes, 1); }) / (double)n;
-        double c_time = least(21, [&] { plain = baseline_count(&c.plan, 12345, n, window); }) / (double)n;
+        row(c.name, {{"ours", (double)n, [&] { s = bench_counts(c.bytes.data(), c.bytes.size(), 12345, n, window, 2 * (size_t)c.plan.axes, 1); }},
+                     {"C", (double)n, [&] { plain = baseline_count(&c.plan, 12345, n, window); }}});
         check(s == plain, c.name + ": S");
-        line(c.name, ours, "ns", {{"C", c_time}});
     }
 }
 
@@ -171,15 +174,15 @@ static void axis_jumps() {
     printf("\n## A jump on one Halton axis, no state: ns\n\n| axis | ours | C with the reciprocal stored |\n|---|---|---|\n");
     for (int family : {0, 1})
         for (unsigned b : {2u, 3u, 13u, 241u, 256u}) {
-            uint64_t ours_sum = 0, plain_sum = 0, reciprocal = UINT64_MAX / b + 1, first = 123456789;
-            double ours = least(41, [&] { ours_sum = bench_axis_jumps((uint64_t)family, b, first, 10000); }) / 10000;
-            double plain = least(41, [&] {
-                plain_sum = 0;
-                for (uint64_t i = 0; i < 10000; i++)
-                    plain_sum ^= baseline_axis_jump(family, b, reciprocal, first ^ i);
-            }) / 10000;
-            check(ours_sum == plain_sum, "a jump in base " + std::to_string(b));
-            line((family ? "permuted " : "Halton ") + std::to_string(b), ours, "ns", {{"C", plain}});
+            uint64_t ours = 0, plain = 0, reciprocal = UINT64_MAX / b + 1, first = 123456789;
+            row((family ? "permuted " : "Halton ") + std::to_string(b),
+                {{"ours", 10000, [&] { ours = bench_axis_jumps((uint64_t)family, b, first, 10000); }},
+                 {"C", 10000, [&] {
+                      plain = 0;
+                      for (uint64_t i = 0; i < 10000; i++)
+                          plain ^= baseline_axis_jump(family, b, reciprocal, first ^ i);
+                  }}});
+            check(ours == plain, "a jump in base " + std::to_string(b));
         }
 }
 
@@ -190,16 +193,22 @@ static void calls(const std::vector<Case> &all) {
         uint8_t bytes[48];
         jumper_t j;
         baseline_prepare(&c.plan, &j);
-        double jump = least(21, [&] { bench_jumps(c.bytes.data(), c.bytes.size(), 123456789, 1000, out, 6); }) / 1000;
-        double step = least(21, [&] { bench_steps(c.bytes.data(), c.bytes.size(), 123456789, 1000, out, 6); }) / 1000;
-        double place = least(21, [&] { bench_steps_in_place(c.bytes.data(), c.bytes.size(), 123456789, 1000, out, 6); }) / 1000;
-        double point = least(21, [&] { for (uint64_t i = 0; i < 1000; i++) hisowake_point(c.bytes.data(), c.bytes.size(), 123456789 ^ i, bytes, 48); }) / 1000;
-        double plain = least(21, [&] { for (uint64_t i = 0; i < 1000; i++) baseline_jump(&j, 123456789 ^ i, out); }) / 1000;
-        printf("| %-34s | %.0f | %.0f | %.0f | %.0f | %.0f |", c.name.c_str(), jump, step, place, point, plain);
-        if (c.plan.family == 2)
-            printf(" %.0f | %.0f |\n", boost_jump((size_t)c.plan.axes), quantlib_jump((size_t)c.plan.axes));
-        else
-            printf(" - | - |\n");
+        const uint8_t *plan = c.bytes.data();
+        size_t len = c.bytes.size();
+        std::vector<Program> programs = {
+            {"jump", 1000, [&] { bench_jumps(plan, len, 123456789, 1000, out, 6); }},
+            {"step", 1000, [&] { bench_steps(plan, len, 123456789, 1000, out, 6); }},
+            {"step in place", 1000, [&] { bench_steps_in_place(plan, len, 123456789, 1000, out, 6); }},
+            {"C point", 1000, jumps([&](uint32_t n) { hisowake_point(plan, len, n, bytes, 48); })},
+            {"C", 1000, jumps([&](uint32_t n) { baseline_jump(&j, n, out); })}};
+        if (c.plan.family == 2) {
+            programs.push_back(boost_jumps((size_t)c.plan.axes));
+            programs.push_back(quantlib_jumps((size_t)c.plan.axes));
+        }
+        printf("| %-36s |", c.name.c_str());
+        for (double ns : race(programs))
+            printf(" %.0f |", ns);
+        printf("%s\n", c.plan.family == 2 ? "" : " - | - |");
     }
 }
 
