@@ -41,10 +41,11 @@ pub fn fill_tiles(
 {
     let mut i = lo;
     while i < hi {
-        let r = (n + (i as u64)) % (size as u64);
-        let base = tables::jump(b, l, n + (i as u64) - r);
-        let end = columns::least(i + (size - (r as usize)), hi);
-        run(base, t, r as usize, i, end, s, j, out);
+        let part = columns::tile_at(n + (i as u64), size, i, hi);
+        let r = part.place;
+        let end = part.end;
+        let base = tables::jump(b, l, n + (i as u64) - (r as u64));
+        run(base, t, r, i, end, s, j, out);
         i = end;
     }
 }

@@ -1,12 +1,12 @@
 -- `halton_blocks::fill_tiles` meets its contract: the rows up to i are written, and each part is a run of the table. Assumes nothing.
 use mathlib.Core.Path.{ap, _∙_}
-use Prim.Native.Nat.{ℕ, _+_, _-_, _%_, _≤_, _<_}
+use Prim.Native.Nat.{ℕ, _+_, _-_, _≤_}
 use native.Mathlib.Omega.{arith}
 use denote.Ref.{now}
 use Rattle.tables.specs.Tables.{shifted, tabled}
 use Rattle.columns.specs.Rows.{Column}
 use Rattle.tables.proofs.TableLaws.{tile-at, entry-below, point-below, table-pos}
-use native.Mathlib.Nat.{mul-le-mul-right, mod-lt, mod-le}
+use native.Mathlib.Nat.{mul-le-mul-right}
 use Rattle.columns.proofs.ColumnLaws.{column-none, column-to, column-join, column-as}
 use Rattle.halton_blocks.proofs.fill_tiles.Statement.{statement}
 use Rattle.halton_blocks.proofs.fill_tiles.Tie as tie
@@ -17,84 +17,54 @@ Inv-loop b l size t n lo hi s j out₀ i₀ out i = (lo ≤ i) × (i ≤ hi) × 
 abbrev μ-loop : tie.MeasureT-loop
 μ-loop b l size t n lo hi s j out₀ i₀ out i = hi - i
 
--- the place in the table is within it, and not past the index
-first : (c : tie.In-loop Inv-loop μ-loop) →
-    let a = c .before .before .before .before .before .args in
-    let i = c .before .loop .i in
-    (0 < a .size) × ((a .n + i) % a .size < a .size) × ((a .n + i) % a .size ≤ a .n + i)
-first c =
-    let s = c .before .before .before .before .before in
-    let p = table-pos (s .pre .1 .0 .2) (omega arith) in
-    (p, mod-lt (s .args .n + c .before .loop .i) p, mod-le (s .args .n + c .before .loop .i) (s .args .size))
-
--- the part is not empty
-further : (c : tie.After-least Inv-loop μ-loop) → c .before .before .before .loop .i < c .least .result
-further c = c .least .ensures .2 _ (omega (arith, first (c .before .before))) (omega arith)
-
 loop-holds : tie.Need-loop-holds Inv-loop μ-loop
 loop-holds c = (omega arith, omega arith, column-none _ _ _ _ _)
 
-add-r : tie.Need-add-r Inv-loop μ-loop
-add-r c = omega arith
+add-tile-at : tie.Need-add-tile-at Inv-loop μ-loop
+add-tile-at c = omega arith
 
-rem-r : tie.Need-rem-r Inv-loop μ-loop
-rem-r c = omega (arith, first c)
+tile-at-requires : tie.Need-tile-at-requires Inv-loop μ-loop
+tile-at-requires c κs = omega (arith, table-pos (c .before .before .before .before .before .pre .1 .0 .2) (omega arith))
 
 add-jump : tie.Need-add-jump Inv-loop μ-loop
 add-jump c = omega arith
 
 sub-jump : tie.Need-sub-jump Inv-loop μ-loop
-sub-jump c = omega (arith, first c)
+sub-jump c = omega (arith, c .tile-at .ensures .back)
 
 jump-requires : tie.Need-jump-requires Inv-loop μ-loop
-jump-requires c κs =
-    let s = c .before .before .before .before .before in
-    (omega arith, omega arith, omega arith, omega arith, s .pre .0 .3)
-
-sub-least : tie.Need-sub-least Inv-loop μ-loop
-sub-least c = omega (arith, first (c .before))
-
-add-least : tie.Need-add-least Inv-loop μ-loop
-add-least c = omega (arith, first (c .before))
-
-least-requires : tie.Need-least-requires Inv-loop μ-loop
-least-requires c κs = omega arith
+jump-requires c κs = (omega arith, omega arith, omega arith, omega arith, c .before .before .before .before .before .before .pre .0 .3)
 
 run-requires : tie.Need-run-requires Inv-loop μ-loop
 run-requires c κs =
     let s = c .before .before .before .before .before .before .before .before in
     let a = s .args in
-    let l = c .before .before .before .before .loop in
-    let f = first (c .before .before .before) in
-    let e = c .before .least .ensures in
-    let m = further (c .before) in (
+    let e = c .before .before .tile-at .ensures in (
       (
-        rw (c .before .before .jump .ensures) (point-below (s .pre .0 .3) (omega arith) (omega arith) _),
-        omega (arith, m),
-        omega (arith, f, e .0, m),
+        rw (c .before .jump .ensures) (point-below (s .pre .0 .3) (omega arith) (omega arith) _),
+        omega (arith, e .further),
+        omega (arith, e .in-table),
         omega arith,
-        omega (arith, mul-le-mul-right {m = c .before .least .result} {n = a .hi} (a .s) (e .1)),
+        omega (arith, mul-le-mul-right {m = c .before .before .tile-at .result .end} {n = a .hi} (a .s) (e .in-rows)),
       ),
-      λ x h. entry-below (s .pre .0 .3) (omega arith) (s .pre .1 .0 .2) (omega arith) x (omega (arith, f, e .0, m)),
+      λ x h. entry-below (s .pre .0 .3) (omega arith) (s .pre .1 .0 .2) (omega arith) x (omega (arith, e)),
     )
 
 loop-less : tie.Need-loop-less Inv-loop μ-loop
-loop-less c = omega (arith, further (c .before .before .before .before), c .before .before .before .before .least .ensures .1)
+loop-less c = let e = c .before .before .before .before .before .tile-at .ensures in omega (arith, e .further, e .in-rows)
 
 loop-again : tie.Need-loop-again Inv-loop μ-loop
 loop-again c =
     let s = c .before .before .before .before .before .before .before .before .before .before .before in
     let a = s .args in
     let l = c .before .before .before .before .before .before .before .loop in
-    let f = first (c .before .before .before .before .before .before) in
-    let e = c .before .before .before .before .least .ensures in
-    let m = further (c .before .before .before .before) in
-    let r = (a .n + l .i) % a .size in (
-      omega (arith, m),
-      e .1,
+    let e = c .before .before .before .before .before .tile-at .ensures in
+    let r = c .before .before .before .before .before .tile-at .result .place in (
+      omega (arith, e .further),
+      e .in-rows,
       column-join (l .inv .2)
-          (column-as (c .before .before .run .ensures) (tabled (now (a .l)) (a .b) (a .n)) (λ k h q. ap (λ (y : ℕ). shifted y (now (a .t)) (l .i) r k) (c .before .before .before .before .before .jump .ensures) ∙ tile-at (s .pre .0 .3) (omega arith) (s .pre .1 .0 .2) (a .n) (l .i) k h (omega (arith, f, e .0, m))))
-          (omega arith) (omega (arith, m)) (omega arith),
+          (column-as (c .before .before .run .ensures) (tabled (now (a .l)) (a .b) (a .n)) (λ k h q. ap (λ (y : ℕ). shifted y (now (a .t)) (l .i) r k) (c .before .before .before .before .jump .ensures) ∙ rw (e .remainder) (tile-at (s .pre .0 .3) (omega arith) (s .pre .1 .0 .2) (a .n) (l .i) k h (omega (arith, e)))))
+          (omega arith) (omega (arith, e .further)) (omega arith),
     )
 
 same-length : tie.Need-same-length Inv-loop μ-loop
@@ -110,14 +80,11 @@ fill-tiles-spec =
     Inv-loop
     μ-loop
     loop-holds
-    add-r
-    rem-r
+    add-tile-at
+    tile-at-requires
     add-jump
     sub-jump
     jump-requires
-    sub-least
-    add-least
-    least-requires
     run-requires
     loop-less
     loop-again
