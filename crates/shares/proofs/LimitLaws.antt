@@ -23,16 +23,17 @@ module _ (bound n : ℕ) (pos : 1 ≤ n) where
   pub rest-low : bound % n ≤ n - 1
   rest-low = omega (arith, mod-lt bound {m = n} (omega arith))
 
-  up-low : upOf bound n < 10 ^ 9 + 1
-  up-low = div-lt-iff-lt-mul {k = n} {x = bound % n * 10 ^ 9 + (n - 1)} {y = 10 ^ 9 + 1} (omega arith) .1 (omega (arith, rest-low))
-
-  pub whole-fits : bound < 2 ^ 64 → bound / n + upOf bound n / 10 ^ 9 < 2 ^ 64
-  whole-fits h = ⊎-elim one (λ two. omega (arith, up-low, div-add-mod' bound n, mul-le-mul-left (bound / n) two)) (lt-or-ge n 2)
+  -- the whole part fits, whatever below n is added to the rest
+  pub whole-fits : (t : ℕ) → t ≤ n - 1 → bound < 2 ^ 64 → bound / n + (bound % n * 10 ^ 9 + t) / n / 10 ^ 9 < 2 ^ 64
+  whole-fits t low h = ⊎-elim one (λ two. omega (arith, up-low, div-add-mod' bound n, mul-le-mul-left (bound / n) two)) (lt-or-ge n 2)
     where
-      one : n < 2 → bound / n + upOf bound n / 10 ^ 9 < 2 ^ 64
+      up-low : (bound % n * 10 ^ 9 + t) / n < 10 ^ 9 + 1
+      up-low = div-lt-iff-lt-mul {k = n} {x = bound % n * 10 ^ 9 + t} {y = 10 ^ 9 + 1} (omega arith) .1 (omega (arith, rest-low))
+
+      one : n < 2 → bound / n + (bound % n * 10 ^ 9 + t) / n / 10 ^ 9 < 2 ^ 64
       one l =
           let e : n ≡ 1 = omega arith in
-          let none : upOf bound n < 1 = div-lt-iff-lt-mul {k = n} {x = bound % n * 10 ^ 9 + (n - 1)} {y = 1} (omega arith) .1 (omega (arith, rest-low)) in
+          let none : (bound % n * 10 ^ 9 + t) / n < 1 = div-lt-iff-lt-mul {k = n} {x = bound % n * 10 ^ 9 + t} {y = 1} (omega arith) .1 (omega (arith, rest-low)) in
           let all : bound / n * n ≡ bound / n = rw e (omega arith) in
           omega (arith, div-add-mod' bound n)
 
