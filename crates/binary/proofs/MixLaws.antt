@@ -9,7 +9,7 @@ use native.Mathlib.Numerals.{add-one}
 use native.Mathlib.Nat.{not-suc-le-zero, le-of-suc-le-suc, pow-suc}
 use lib.ListN.{length, getD, drop}
 use lib.Pow.{pow-pos}
-use lib.Bits.{bitXor, bitAnd, and-mask, xor-zero-r, xor-self, xor-lt}
+use lib.Bits.{bitXor, bitAnd, and-mask, xor-zero-r, xor-self}
 use Rattle.binary.specs.Gf2.{times, mix}
 use Rattle.numbers.proofs.Cases.{even-or-odd}
 use Rattle.binary.proofs.XorLaws.{xor-half, xor-digit, xor-assoc, xor-swap}
@@ -83,12 +83,6 @@ mix-pow (v ∷ vs) (suc j) = ap₂ (λ (d h : ℕ). bitXor (times d v) (mix vs h
 
     half : 2 ^ suc j / 2 ≡ 2 ^ j
     half = omega (arith, pow-suc 2 j)
-
--- it stays below a power of two that the words stay below
-pub mix-lt : (k : ℕ) (vs : List ℕ) → ((j : ℕ) → getD vs j 0 < 2 ^ k) → (g : ℕ) → mix vs g < 2 ^ k
-unfolding mix
-mix-lt k [] h g = pow-pos k
-mix-lt k (v ∷ vs) h g = xor-lt k (times (g % 2) v) (mix vs (g / 2)) (times-lt k (g % 2) v (h 0)) (mix-lt k vs (λ j. h (suc j)) (g / 2))
 
 -- ---- it goes through the list from its front
 

@@ -1,21 +1,16 @@
 -- Bits packed into bytes and bytes taken apart into bits undo each other, so that bits have one packing. Assumes nothing.
-use mathlib.Core.Path.{_≡_, refl, sym, ap, ap₂, _∙_, subst}
-use mathlib.Core.List.{List, [], _∷_, _++_, append-assoc}
+use mathlib.Core.Path.{_≡_, refl, sym, ap, ap₂, _∙_}
+use mathlib.Core.List.{List, [], _∷_, _++_}
 use mathlib.Core.Logic.{_↔_}
 use Prim.Native.Nat.{ℕ, zero, suc, _+_, _-_, _*_, _/_, _<_, _≤_}
 use native.Mathlib.Nat.{mod-eq-of-lt}
 use native.Mathlib.Omega.{arith}
 use lib.ListN.{length, take, drop, replicate, length-append, length-drop, length-replicate}
-use lib.Seq.{take-at, drop-at, take-nil, drop-nil, take-append-add, drop-append-add}
+use lib.Seq.{take-at, drop-at, take-nil, take-append-add}
 use Rattle.bits.specs.Stream.{toBits, ofBits, bitsOf, AllBelow, overwrite, bytesFor, pack, packed}
-use Rattle.bits.proofs.StreamLaws.{length-to-bits, length-bits, of-bits-to-bits, to-bits-front, to-bits-zero, of-bits-take-lt, zeros-of-bits, below-append, below-right, below-drop, below-bits, below-zeros}
+use Rattle.bits.proofs.StreamLaws.{length-to-bits, length-bits, of-bits-to-bits, to-bits-front, to-bits-zero, of-bits-take-lt, below-append, below-drop, below-zeros}
 
--- ---- the bits of parts
-
-pub bits-append : (a b : List ℕ) → bitsOf (a ++ b) ≡ bitsOf a ++ bitsOf b
-unfolding bitsOf
-bits-append [] b = refl
-bits-append (x ∷ a) b = ap (λ (l : List ℕ). toBits 8 x ++ l) (bits-append a b) ∙ sym (append-assoc (toBits 8 x) (bitsOf a) (bitsOf b))
+-- ---- the bits of the first bytes
 
 eight-more : (x n : ℕ) → 8 * suc n ≡ length (toBits 8 x) + 8 * n
 eight-more x n = omega (arith, length-to-bits 8 x)
@@ -26,12 +21,6 @@ bits-take zero bs = refl
 bits-take (suc n) [] = sym (take-nil (8 * suc n))
 bits-take (suc n) (x ∷ bs) =
     ap (λ (l : List ℕ). toBits 8 x ++ l) (bits-take n bs) ∙ sym (rw (eight-more x n) (take-append-add (toBits 8 x) (bitsOf bs) (8 * n)))
-
-pub bits-drop : (n : ℕ) (bs : List ℕ) → bitsOf (drop n bs) ≡ drop (8 * n) (bitsOf bs)
-unfolding bitsOf
-bits-drop zero bs = refl
-bits-drop (suc n) [] = sym (drop-nil (8 * suc n))
-bits-drop (suc n) (x ∷ bs) = bits-drop n bs ∙ sym (rw (eight-more x n) (drop-append-add (toBits 8 x) (bitsOf bs) (8 * n)))
 
 -- ---- whole bytes
 
@@ -113,11 +102,6 @@ packed-bits bs l r h e few zero-r =
     let ef : 8 * length bs - length l ≡ length r = omega arith in
     rw (eb, ef, ← zero-r, ← e) (pack-bits bs h)
 
--- the same by the tail's number
-pub packed-tail : (bs l r : List ℕ) → AllBelow 256 bs → bitsOf bs ≡ l ++ r → length r < 8 → ofBits r ≡ 0 → packed l ≡ bs
-packed-tail bs l r h e few zero-r =
-    packed-bits bs l r h e few (zeros-of-bits r (below-right 2 l r (subst (AllBelow 2) e (below-bits bs))) zero-r)
-
 -- and no others are
 pub packed-unique : (bs l : List ℕ) → AllBelow 2 l → AllBelow 256 bs → packed l ≡ bs ↔ ((k : ℕ) × (k < 8) × (bitsOf bs ≡ l ++ replicate k 0))
 packed-unique bs l h hb = (to, from)
@@ -146,18 +130,3 @@ packed-front l old new n h hn en e =
     ∙ ap (take (8 * bytesFor n)) e
     ∙ take-at x (drop (0 + length x) (bitsOf old)) (8 * bytesFor n) lx
     ∙ sym es)
-
--- and what stood after it stays
-pub packed-over : (l old new : List ℕ) (n : ℕ) → AllBelow 2 l → AllBelow 256 old → AllBelow 256 new → n ≡ length l
-    → bitsOf new ≡ overwrite (bitsOf old) 0 (l ++ toBits (8 * bytesFor n - n) 0) → new ≡ packed l ++ drop (length (packed l)) old
-unfolding overwrite
-packed-over l old new n h ho hn en e =
-    let s : List ℕ = packed l in
-    let es : bitsOf (packed l) ≡ l ++ toBits (8 * bytesFor n - n) 0 = bits-packed-field l h n en in
-    let el : 8 * length (packed l) ≡ 0 + length (l ++ toBits (8 * bytesFor n - n) 0) = omega (arith, length-bits (packed l), ap length es) in
-    bits-inj new (s ++ drop (length s) old) hn
-    (below-append 256 s (drop (length s) old) (below-packed l h) (below-drop 256 (length s) old ho))
-    (e
-    ∙ sym
-    (bits-append s (drop (length s) old)
-    ∙ ap₂ (λ (x y : List ℕ). x ++ y) es (bits-drop (length s) old ∙ ap (λ (k : ℕ). drop k (bitsOf old)) el)))

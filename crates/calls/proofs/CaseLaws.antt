@@ -10,10 +10,10 @@ use Rattle.plan.specs.Plan.{halton, sobol}
 use Rattle.plan.specs.Reading.{Reading, refused, accepted, readPlan}
 use Rattle.plan.specs.Answer.{answerOf, planAnswered, Accepted}
 use Rattle.plan.specs.declared.PlanRead.{PlanRead}
+use Rattle.plan.proofs.AnswerLaws.{read-accepted}
 use Rattle.points.specs.Point.{pointOf, pointsFrom, slotOf}
 use Rattle.writer.specs.Parts.{Written}
 use Rattle.writer.specs.declared.PlanWritten.{PlanWritten}
-use Rattle.writer.proofs.RoundTrip.{read-accepted}
 use Rattle.state.specs.State.{made, blank, planIn, genuine}
 use Rattle.state.specs.declared.Sampler.{Sampler}
 use Rattle.calls.specs.Calls.{moved, blocked, readState, readSpec, writeSpec, writeBuf, openSpec, jumpSpec, jumpBuf, stepSpec, stepBuf, blockSize, blockSpec, blockBuf, secondSpec}

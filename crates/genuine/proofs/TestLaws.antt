@@ -12,11 +12,11 @@ use Rattle.plan.specs.Reading.{Reading, refused, accepted, readPlan}
 use Rattle.plan.specs.Answer.{answerOf, planAnswered, Accepted}
 use Rattle.plan.specs.declared.PlanRead.{PlanRead}
 use Rattle.plan.proofs.SpellingLaws.{spell-length, spell-below}
+use Rattle.plan.proofs.AnswerLaws.{read-accepted}
 use Rattle.state.specs.State.{both, msIn, planIn, permitted, samePlan, sameRun, sameState, made, genuineBy, genuine}
 use Rattle.state.specs.declared.Sampler.{Sampler}
 use Rattle.state.proofs.GenuineLaws.{Genuine, genuine-is}
 use Rattle.writer.specs.Parts.{Writable, noRoom, writtenIf, Written}
-use Rattle.writer.proofs.RoundTrip.{read-accepted}
 use Rattle.comparison.proofs.WordLaws.{is-false}
 use Rattle.spellable.proofs.SpellableLaws.{writable-in}
 

@@ -13,10 +13,10 @@ use Rattle.plan.specs.Plan.{Plan, Valid}
 use Rattle.plan.specs.Reading.{refused, accepted, readPlan}
 use Rattle.plan.specs.Answer.{answerOf, planAnswered, Accepted}
 use Rattle.plan.specs.declared.PlanRead.{PlanRead}
+use Rattle.plan.proofs.AnswerLaws.{read-accepted}
 use Rattle.points.specs.Point.{axisCount, pointOf}
 use Rattle.points.specs.Arrays.{directionsArray, pointAt}
 use Rattle.points.proofs.PointLaws.{point-of-length}
-use Rattle.writer.proofs.RoundTrip.{read-accepted}
 use Rattle.state.proofs.StateLaws.{Holds, holds-point, accepted-holds}
 use Rattle.c_refusals.specs.Refusals.{pointRefusal}
 use Rattle.big_endian.specs.Bytes.{wordBytes}

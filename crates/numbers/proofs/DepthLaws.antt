@@ -2,7 +2,7 @@
 use mathlib.Core.Path.{_≡_, refl, sym, ap, _∙_}
 use mathlib.Core.Logic.{⊎-elim}
 use Prim.Native.Nat.{ℕ, _+_, _-_, _*_, _^_, _<_, _≤_}
-use native.Mathlib.Nat.{le-antisymm, le-of-eq, le-trans, pow-zero, pow-le-pow-left, mul-le-mul, mul-le-mul-left}
+use native.Mathlib.Nat.{le-antisymm, le-of-eq, le-trans, pow-zero, mul-le-mul, mul-le-mul-left}
 use native.Mathlib.Omega.{arith}
 use Rattle.numbers.specs.Digits.{digitCount, digitCountIn}
 use Rattle.numbers.specs.Depth.{depth, denominator}
@@ -31,9 +31,6 @@ depth-pos b l = ⊎-elim (λ p. p) (λ p. absurd (none p)) (lt-or-ge 0 (depth b)
   where
     none : depth b ≤ 0 → ⊥
     none p = omega (arith, depth-reaches b l, pow-up-to b {j = depth b} {k = 0} (omega arith) p, pow-zero b)
-
-pub depth-at-most : (b : ℕ) → 2 ≤ b → depth b ≤ 32
-depth-at-most b l = depth-least b 32 l (pow-le-pow-left l 32)
 
 -- one digit fewer does not reach
 depth-short : (b : ℕ) → 2 ≤ b → b ^ (depth b - 1) < 2 ^ 32

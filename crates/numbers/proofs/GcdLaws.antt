@@ -62,6 +62,3 @@ gcd-one-iff-coprime a b = (
   λ e d p q. eq-one-of-dvd-one (subst (λ (g : ℕ). d ∣ g) e (gcd-greatest a b d p q)),
   λ c. c (gcd a b) (gcd-divides a b .0) (gcd-divides a b .1),
 )
-
-pub coprime-sym : {a b : ℕ} → Coprime a b → Coprime b a
-coprime-sym c d p q = c d q p

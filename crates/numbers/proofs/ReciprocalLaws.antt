@@ -23,7 +23,7 @@ module _ (m b r : ℕ) (big : 2 ≤ b) (fits : r * b < m) where
       above c u q t e f l k =
           omega (arith, mul-le-mul-left {m = c * b + b} {n = m + b} r (omega arith), mul-le-mul-right {m = r + 1} {n = (q + 1) * b} m (omega (arith, add-mul q 1 b)))
 
-  pub reciprocal : r * (m / b + 1) / m ≡ r / b
+  reciprocal : r * (m / b + 1) / m ≡ r / b
   reciprocal = div-eq-of-lt-le m (reciprocal-under m b r big) reciprocal-over
 
 -- where r alone is below m, the whole part is r / b or one more

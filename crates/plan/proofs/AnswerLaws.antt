@@ -1,6 +1,6 @@
 -- The arrays of the reader's answer hold the plan that was read: each list stands in front of its zeros, the m's of axis i from place 12 i on.
--- Assumes nothing.
-use mathlib.Core.Path.{_≡_, refl, sym, ap, ap₂, _∙_}
+-- So an answer says what the reading was: of its plan, whose spelling the bytes are, or refused, and with which number. Assumes nothing.
+use mathlib.Core.Path.{_≡_, refl, sym, ap, ap₂, _∙_, subst}
 use mathlib.Core.List.{List, [], _∷_, _++_, append-assoc}
 use Prim.Native.Nat.{ℕ, zero, suc, _+_, _-_, _*_, _≤_, _<_}
 use native.Mathlib.Omega.{arith}
@@ -11,10 +11,14 @@ use Rattle.numbers.specs.Listed.{padded}
 use Rattle.numbers.proofs.ListedLaws.{padded-length, padded-at, padded-take}
 use Rattle.binary.specs.Polynomial.{degreeOf}
 use Rattle.binary.proofs.DegreeLaws.{degree-of}
-use Rattle.plan.specs.Plan.{Axis, noAxis, Plan, halton, sobol, ValidAxes, Valid}
-use Rattle.plan.specs.Reading.{accepted}
-use Rattle.plan.specs.Answer.{polynomialsOf, msOf, answerOf, axisAt, axesOf, planBy, planOf}
+use Rattle.bits.specs.Stream.{AllBelow}
+use Rattle.plan.specs.Plan.{Axis, noAxis, Plan, halton, sobol, ValidAxes, Valid, spell}
+use Rattle.plan.specs.Reading.{Reading, refused, accepted, readPlan}
+use Rattle.plan.specs.Answer.{polynomialsOf, msOf, answerOf, axisAt, axesOf, planBy, planOf, planAnswered}
+use Rattle.plan.specs.declared.PlanRead.{PlanRead}
 use Rattle.plan.proofs.PlaceLaws.{length-snoc}
+use Rattle.plan.proofs.AcceptLaws.{accepted-iff}
+use Rattle.plan.proofs.RefusalLaws.{refused-range}
 
 pub length-axes : (ps ms : List ℕ) (s : ℕ) → length (axesOf ps ms s) ≡ s
 unfolding axesOf
@@ -60,3 +64,30 @@ pub plan-of-answer : (p : Plan) → Valid p → let a = answerOf (accepted p) in
 unfolding answerOf planOf planBy Valid
 plan-of-answer (halton family bases) v = rw (ne-eqb family 2 (λ e. omega arith)) (ap (halton family) (padded-take 6 bases (length bases) refl))
 plan-of-answer (sobol axes) v = ap sobol (axes-back axes (v .1) (length axes) (omega arith) ∙ take-length axes)
+
+-- ---- what an answer says of the reading
+
+-- `a` answers a reading of the bytes that is accepted: the plan that it holds is valid, and the bytes are its spelling
+pub read-accepted : (bytes : List ℕ) → AllBelow 256 bytes → (a : PlanRead) → a ≡ answerOf (readPlan bytes) → a .code ≡ 0
+    → (readPlan bytes ≡ accepted (planAnswered a)) × Valid (planAnswered a) × (bytes ≡ spell (planAnswered a))
+unfolding answerOf
+read-accepted bytes below a e z = go (readPlan bytes) refl
+  where
+    go : (r : Reading) → readPlan bytes ≡ r → (readPlan bytes ≡ accepted (planAnswered a)) × Valid (planAnswered a) × (bytes ≡ spell (planAnswered a))
+    go (refused n) f =
+        let code : a .code ≡ n = ap (λ (x : PlanRead). x .code) (e ∙ ap answerOf f) in
+        absurd (omega (arith, refused-range bytes n f))
+    go (accepted p) f =
+        let w = accepted-iff bytes below p .0 f in
+        let same : p ≡ planAnswered a = sym (ap planAnswered (e ∙ ap answerOf f) ∙ plan-of-answer p (w .0)) in
+        (f ∙ ap accepted same, subst Valid same (w .0), w .1 ∙ ap spell same)
+
+-- `a` answers a reading of the bytes that is refused, with its number
+pub read-refused : (bytes : List ℕ) (a : PlanRead) → a ≡ answerOf (readPlan bytes) → (a .code ≡ 0 → ⊥) → readPlan bytes ≡ refused (a .code)
+unfolding answerOf
+read-refused bytes a e f = go (readPlan bytes) refl
+  where
+    go : (r : Reading) → readPlan bytes ≡ r → readPlan bytes ≡ refused (a .code)
+    go (refused n) g = g ∙ ap refused (sym (ap (λ (x : PlanRead). x .code) (e ∙ ap answerOf g)))
+    go (accepted (halton family bases)) g = absurd (f (ap (λ (x : PlanRead). x .code) (e ∙ ap answerOf g)))
+    go (accepted (sobol axes)) g = absurd (f (ap (λ (x : PlanRead). x .code) (e ∙ ap answerOf g)))

@@ -6,8 +6,7 @@ use Prim.Native.Nat.{ℕ, zero, suc, _+_, _*_, _^_, _<_}
 use native.Mathlib.Nat.{add-zero, add-suc, add-assoc, zero-mul, suc-mul}
 use native.Mathlib.Omega.{arith}
 use lib.ListN.{length, getD, length-append}
-use Rattle.numbers.specs.Depth.{denominator}
-use Rattle.numbers.proofs.DepthLaws.{denominator-lt, depth-reaches}
+use Rattle.numbers.proofs.DepthLaws.{denominator-lt}
 use Rattle.numbers.proofs.ListedLaws.{listed-length}
 use Rattle.permutation.proofs.FamilyLaws.{image-permutes}
 use Rattle.halton.proofs.AxisLaws.{numerator-below}
@@ -22,11 +21,6 @@ axis-count (halton family bases) v = v .1
 axis-count (sobol axes) v = v .0
 
 -- ---- numerators and denominators
-
-pub denominator-of-pos : (p : Plan) → Valid p → (i : ℕ) → i < axisCount p → 0 < denominatorOf p i
-unfolding Valid axisCount denominatorOf denominator
-denominator-of-pos (halton family bases) v i h = omega (arith, depth-reaches (getD bases i 0) (v .2 .low i h))
-denominator-of-pos (sobol axes) v i h = omega arith
 
 pub denominator-of-lt : (p : Plan) → Valid p → (i : ℕ) → i < axisCount p → denominatorOf p i < 2 ^ 40
 unfolding Valid axisCount denominatorOf

@@ -17,14 +17,6 @@ pub true-both : {a b : Bool} → a ≡ true → b ≡ true → both a b ≡ true
 unfolding both
 true-both e f = rw (e, f) refl
 
-pub both-left : (a b : Bool) → a ≡ false → both a b ≡ false
-unfolding both
-both-left a b e = rw e refl
-
-pub both-right : (a b : Bool) → a ≡ true → both a b ≡ b
-unfolding both
-both-right a b e = rw e refl
-
 same : (n : ℕ) → eqb n n ≡ true
 same n = eq-eqb n n refl
 

@@ -11,7 +11,7 @@ use Rattle.plan.specs.Reading.{Reading, accepted, readPlan}
 use Rattle.plan.specs.Answer.{answerOf, planAnswered, Accepted}
 use Rattle.plan.specs.declared.PlanRead.{PlanRead}
 use Rattle.plan.proofs.RefusalLaws.{refused-range}
-use Rattle.writer.proofs.RoundTrip.{read-accepted, read-refused}
+use Rattle.plan.proofs.AnswerLaws.{read-accepted, read-refused}
 use Rattle.walk_text.specs.Text.{textOf, walkText}
 use Rattle.text.specs.Put.{Put}
 

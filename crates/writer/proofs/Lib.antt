@@ -1,5 +1,4 @@
 -- Laws of what the writer leaves in a buffer.
 pub mod PlanLaws
 pub mod AnswerLaws
-pub mod WritableLaws
 pub mod RoundTrip

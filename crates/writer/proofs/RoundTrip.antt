@@ -1,6 +1,6 @@
 -- Round trips, by what the contracts of the reader's and the writer's calls say: the same bytes after a reading and a writing, the same plan
 -- after a writing and a reading. Assumes nothing.
-use mathlib.Core.Path.{_≡_, refl, sym, ap, _∙_, subst}
+use mathlib.Core.Path.{_≡_, refl, sym, ap, _∙_}
 use mathlib.Core.Bool.{Bool, true, false}
 use mathlib.Core.List.{List, _++_}
 use Prim.Native.Nat.{ℕ, _≤_}
@@ -9,39 +9,13 @@ use lib.ListN.{length, take, drop}
 use lib.Seq.{take-at}
 use borrow.Author.Tests.{le-ltb}
 use Rattle.bits.specs.Stream.{AllBelow}
-use Rattle.plan.specs.Plan.{Plan, halton, sobol, Valid, spell}
-use Rattle.plan.specs.Reading.{Reading, refused, accepted, readPlan}
+use Rattle.plan.specs.Plan.{Plan, Valid, spell}
+use Rattle.plan.specs.Reading.{accepted, readPlan}
 use Rattle.plan.specs.Answer.{answerOf, planAnswered}
 use Rattle.plan.specs.declared.PlanRead.{PlanRead}
-use Rattle.plan.proofs.AcceptLaws.{accepted-iff, read-spelled}
-use Rattle.plan.proofs.RefusalLaws.{refused-range}
-use Rattle.plan.proofs.AnswerLaws.{plan-of-answer}
+use Rattle.plan.proofs.AcceptLaws.{read-spelled}
+use Rattle.plan.proofs.AnswerLaws.{read-accepted}
 use Rattle.writer.specs.Parts.{noRoom, writtenIf, Written}
-
--- `a` answers a reading of the bytes that is accepted: the plan that it holds is valid, and the bytes are its spelling
-pub read-accepted : (bytes : List ℕ) → AllBelow 256 bytes → (a : PlanRead) → a ≡ answerOf (readPlan bytes) → a .code ≡ 0
-    → (readPlan bytes ≡ accepted (planAnswered a)) × Valid (planAnswered a) × (bytes ≡ spell (planAnswered a))
-unfolding answerOf
-read-accepted bytes below a e z = go (readPlan bytes) refl
-  where
-    go : (r : Reading) → readPlan bytes ≡ r → (readPlan bytes ≡ accepted (planAnswered a)) × Valid (planAnswered a) × (bytes ≡ spell (planAnswered a))
-    go (refused n) f =
-        let code : a .code ≡ n = ap (λ (x : PlanRead). x .code) (e ∙ ap answerOf f) in
-        absurd (omega (arith, refused-range bytes n f))
-    go (accepted p) f =
-        let w = accepted-iff bytes below p .0 f in
-        let same : p ≡ planAnswered a = sym (ap planAnswered (e ∙ ap answerOf f) ∙ plan-of-answer p (w .0)) in
-        (f ∙ ap accepted same, subst Valid same (w .0), w .1 ∙ ap spell same)
-
--- `a` answers a reading of the bytes that is refused, with its number
-pub read-refused : (bytes : List ℕ) (a : PlanRead) → a ≡ answerOf (readPlan bytes) → (a .code ≡ 0 → ⊥) → readPlan bytes ≡ refused (a .code)
-unfolding answerOf
-read-refused bytes a e f = go (readPlan bytes) refl
-  where
-    go : (r : Reading) → readPlan bytes ≡ r → readPlan bytes ≡ refused (a .code)
-    go (refused n) g = g ∙ ap refused (sym (ap (λ (x : PlanRead). x .code) (e ∙ ap answerOf g)))
-    go (accepted (halton family bases)) g = absurd (f (ap (λ (x : PlanRead). x .code) (e ∙ ap answerOf g)))
-    go (accepted (sobol axes)) g = absurd (f (ap (λ (x : PlanRead). x .code) (e ∙ ap answerOf g)))
 
 -- what was read and is written again is the same bytes, and nothing behind them changes
 pub write-after-read : (bytes old new : List ℕ) (a : PlanRead) (code len : ℕ) → AllBelow 256 bytes → a ≡ answerOf (readPlan bytes) → a .code ≡ 0

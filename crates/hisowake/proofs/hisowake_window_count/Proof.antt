@@ -7,8 +7,8 @@ use lib.ListN.{length}
 use Rattle.bits.proofs.StreamLaws.{below-of}
 use Rattle.plan.specs.Reading.{accepted, readPlan}
 use Rattle.plan.specs.Answer.{planAnswered, Accepted}
+use Rattle.plan.proofs.AnswerLaws.{read-refused}
 use Rattle.points.specs.Point.{axisCount}
-use Rattle.writer.proofs.RoundTrip.{read-refused}
 use Rattle.state.proofs.StateLaws.{accepted-few}
 use Rattle.c_refusals.specs.Refusals.{countRefusal}
 use Rattle.c_refusals.proofs.RefusalLaws.{refusal-zero}

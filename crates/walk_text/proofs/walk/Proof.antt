@@ -8,7 +8,7 @@ use Rattle.bits.specs.Stream.{AllBelow}
 use Rattle.bits.proofs.StreamLaws.{below-of, below-take}
 use Rattle.plan.specs.Reading.{readPlan}
 use Rattle.plan.specs.Answer.{answerOf}
-use Rattle.writer.proofs.RoundTrip.{read-refused}
+use Rattle.plan.proofs.AnswerLaws.{read-refused}
 use Rattle.walk_text.specs.Text.{textOf}
 use Rattle.walk_text.proofs.WalkLaws.{code-low, read-plan-is, answer-accepted, whole}
 use Rattle.walk_text.proofs.walk.Statement.{statement}
