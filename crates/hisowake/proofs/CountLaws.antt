@@ -44,7 +44,7 @@ module _ (bytes : List ℕ) (s : ℕ) where
   unfolding windowRefusal
   refusal-bytes z = ⊎-elim (λ t. t) (λ f. absurd (omega (arith, off f))) (true-or-false (isWindowBytes bytes s))
     where
-      off : isWindowBytes bytes s ≡ false → choose (isWindowBytes bytes s) 0 14 ≡ 14
+      off : isWindowBytes bytes s ≡ false → choose {A = ℕ} (isWindowBytes bytes s) 0 14 ≡ 14
       off f = rw f refl
 
   pub window-bytes : isWindowBytes bytes s ≡ true → (length bytes ≡ 8 * s) × (isWindow (windowIn bytes s) s ≡ true)

@@ -9,7 +9,6 @@ use Rattle.numbers.specs.Choice.{choose}
 use Rattle.plan.specs.Plan.{Plan}
 use Rattle.plan.specs.Reading.{Reading, refused, accepted, readPlan}
 use Rattle.points.specs.Point.{axisCount, pointOf}
-use Rattle.state.specs.State.{pick}
 use Rattle.window.specs.Counting.{insideCount, boundOf, isWindow}
 use Rattle.c_refusals.specs.Refusals.{pointRefusal, countRefusal}
 use Rattle.big_endian.specs.Bytes.{wordBytes, windowIn}
@@ -27,7 +26,7 @@ pointCode plan index out = pointCodeBy (readPlan plan) index out
 unfoldable pub pointBytesBy : Reading → ℕ → List ℕ → List ℕ
 pointBytesBy (refused n) index out = out
 pointBytesBy (accepted p) index out =
-    pick (eqb (pointCodeBy (accepted p) index out) 0) (wordBytes (pointOf p index) ++ drop (8 * axisCount p) out) out
+    choose (eqb (pointCodeBy (accepted p) index out) 0) (wordBytes (pointOf p index) ++ drop (8 * axisCount p) out) out
 
 unfoldable pub pointBytes : List ℕ → ℕ → List ℕ → List ℕ
 pointBytes plan index out = pointBytesBy (readPlan plan) index out
@@ -56,7 +55,7 @@ countCode plan start count window out = countCodeBy (readPlan plan) start count 
 unfoldable pub countBytesBy : Reading → ℕ → ℕ → List ℕ → List ℕ → List ℕ
 countBytesBy (refused n) start count window out = out
 countBytesBy (accepted p) start count window out =
-    pick (eqb (countCodeBy (accepted p) start count window out) 0)
+    choose (eqb (countCodeBy (accepted p) start count window out) 0)
     (wordBytes (answersOf p start count window) ++ drop 16 out) out
 
 unfoldable pub countBytes : List ℕ → ℕ → ℕ → List ℕ → List ℕ → List ℕ

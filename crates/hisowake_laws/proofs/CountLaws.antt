@@ -14,7 +14,7 @@ use Rattle.bits.specs.Stream.{AllBelow}
 use Rattle.plan.specs.Plan.{Plan}
 use Rattle.plan.specs.Reading.{refused, accepted, readPlan}
 use Rattle.points.specs.Point.{axisCount}
-use Rattle.state.specs.State.{pick, made}
+use Rattle.state.specs.State.{made}
 use Rattle.state.specs.History.{Left}
 use Rattle.state.proofs.GenuineLaws.{made-genuine}
 use Rattle.state.proofs.HistoryLaws.{left-valid, left-permitted}
@@ -46,7 +46,7 @@ module _ (plan : List ℕ) (below : AllBelow 256 plan) (p : Plan) (e : readPlan 
       let c = countSpec (o .state) w in
       (countCode plan start N window out ≡ firstOf (r .code) (o .code) (c .code) (choose (ltb (length out) 16) 13 0))
       × (countBytes plan start N window out
-      ≡ pick (eqb (countCode plan start N window out) 0) (wordBytes (c .inside ∷ c .bound ∷ []) ++ drop 16 out) out)
+      ≡ choose (eqb (countCode plan start N window out) 0) (wordBytes (c .inside ∷ c .bound ∷ []) ++ drop 16 out) out)
 
   read-is : readSpec plan ≡ moved 0 (made p 0 0 0)
   read-is = read-left plan below p e .0

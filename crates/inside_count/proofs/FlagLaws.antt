@@ -8,11 +8,12 @@ use native.Mathlib.Numerals.{add-one}
 use native.Mathlib.Omega.{arith}
 use lib.Dec.{ltb}
 use lib.ListN.{length, take, drop, getD, replicate, getD-replicate}
+use Rattle.numbers.specs.Choice.{choose}
 use Rattle.numbers.specs.Count.{bit, count}
 use Rattle.numbers.specs.Cut.{belowCut}
 use Rattle.numbers.proofs.Cases.{lt-iff}
 use Rattle.numbers.proofs.CountLaws.{count-ext, count-parts}
-use Rattle.marks.specs.Marking.{keepIf, Marked}
+use Rattle.marks.specs.Marking.{Marked}
 use Rattle.sobol_tables.specs.Tables.{Directions}
 use Rattle.points.specs.Arrays.{numeratorAt, numeratorFrom, denominatorAt, Arrays}
 use Rattle.points.proofs.ArrayLaws.{numerator-at-lt, numerator-by-part, denominator-by-two}
@@ -43,8 +44,7 @@ limit-cut x d u q pos = lt-iff x ((u * d + (q - 1)) / q) (x * q) (u * d) (λ h. 
     back : x * q < u * d → x < (u * d + (q - 1)) / q
     back h = omega (arith, le-div-iff-mul-le {k = q} {x = x + 1} {y = u * d + (q - 1)} pos .1 (omega (arith, add-mul x 1 q)))
 
-keep-bit : (a b : Bool) → keepIf b (bit a) ≡ bit (a && b)
-unfolding keepIf
+keep-bit : (a b : Bool) → choose b (bit a) 0 ≡ bit (a && b)
 keep-bit true true = refl
 keep-bit true false = refl
 keep-bit false true = refl

@@ -1,7 +1,6 @@
--- One number or another, by a test. Definitions only.
+-- One value or another, by a test. Definitions only.
 use mathlib.Core.Bool.{Bool, true, false}
-use Prim.Native.Nat.{ℕ}
 
-abbrev pub choose : Bool → ℕ → ℕ → ℕ
+abbrev pub choose : {A : Type 0} → Bool → A → A → A
 choose true a b = a
 choose false a b = b

@@ -7,6 +7,7 @@ use native.Mathlib.Omega.{arith}
 use lib.Dec.{ltb}
 use lib.ListN.{replicate, take}
 use borrow.Author.Tests.{lt-ltb, le-ltb, eq-eqb, ne-eqb}
+use Rattle.numbers.specs.Choice.{choose}
 use Rattle.numbers.specs.Listed.{padded}
 use Rattle.plan.specs.Plan.{Plan, halton, sobol, Valid}
 use Rattle.plan.specs.Reading.{accepted}
@@ -16,7 +17,7 @@ use Rattle.points.specs.Point.{axisCount, pointOf, pointsFrom}
 use Rattle.points.specs.Arrays.{familyOf, basesArray, polynomialsArray, directionsIn, directionsArray, pointAt, pointsAt, Arrays}
 use Rattle.points.proofs.PointLaws.{axis-count}
 use Rattle.points.proofs.ArrayLaws.{arrays-of, point-at-plan, points-at-plan}
-use Rattle.state.specs.State.{pick, nextPoint, made, blank, planIn, genuine}
+use Rattle.state.specs.State.{nextPoint, made, blank, planIn, genuine}
 use Rattle.state.specs.declared.Sampler.{Sampler}
 use Rattle.state.proofs.GenuineLaws.{Genuine, genuine-is}
 
@@ -49,9 +50,9 @@ module _ {p : Plan} {family axes : ℕ} {bases vs : List ℕ} (h : Holds p famil
   holds-points n k = rw (h .family-is, h .axes-is, h .bases-is, h .directions-is) (points-at-plan p v n k)
 
   pub holds-next : (start count taken : ℕ)
-      → pick (ltb taken count) (pointAt family axes bases vs (start + taken)) (replicate 6 0) ≡ nextPoint p start count taken
+      → choose (ltb taken count) (pointAt family axes bases vs (start + taken)) (replicate 6 0) ≡ nextPoint p start count taken
   unfolding nextPoint
-  holds-next start count taken = ap (λ (x : List ℕ). pick (ltb taken count) x (replicate 6 0)) (holds-point (start + taken))
+  holds-next start count taken = ap (λ (x : List ℕ). choose (ltb taken count) x (replicate 6 0)) (holds-point (start + taken))
 
 -- the state of these arrays
 pub holds-made : {p : Plan} {family axes : ℕ} {bases vs : List ℕ} → Holds p family axes bases vs → (ps x : List ℕ) (start count taken : ℕ)

@@ -4,6 +4,7 @@ use mathlib.Core.Bool.{Bool, true, false}
 use Prim.Native.Nat.{ℕ, _+_, _-_, _*_, _/_, _%_, _^_}
 use lib.Dec.{ltb, leb, eqb}
 use lib.ListN.{getD, replicate}
+use Rattle.numbers.specs.Choice.{choose}
 use Rattle.numbers.specs.Listed.{listed, padded}
 use Rattle.plan.specs.Plan.{Plan, spell}
 use Rattle.plan.specs.Reading.{Reading, refused, accepted, readPlan}
@@ -11,10 +12,6 @@ use Rattle.plan.specs.Answer.{planOf}
 use Rattle.points.specs.Point.{axisCount, pointOf}
 use Rattle.points.specs.Arrays.{familyOf, basesArray, polynomialsArray, directionsArray}
 use Rattle.state.specs.declared.Sampler.{Sampler}
-
-abbrev pub pick : {A : Type 0} → Bool → A → A → A
-pick true a b = a
-pick false a b = b
 
 unfoldable pub both : Bool → Bool → Bool
 both true b = b
@@ -24,7 +21,7 @@ both false b = false
 
 -- the point of the run's next index, and zeros where no point is left, 0 on the axes that the plan lacks
 unfoldable pub nextPoint : Plan → ℕ → ℕ → ℕ → List ℕ
-nextPoint p start count taken = pick (ltb taken count) (padded 6 (pointOf p (start + taken))) (replicate 6 0)
+nextPoint p start count taken = choose (ltb taken count) (padded 6 (pointOf p (start + taken))) (replicate 6 0)
 
 -- the state with this plan and run, so many of whose points are taken
 unfoldable pub made : Plan → ℕ → ℕ → ℕ → Sampler

@@ -5,11 +5,12 @@ ghost use mathlib.Core.Bool.{true};
 ghost use Prim.Native.Nat.{_+_, _*_, _^_, _<_, _≤_};
 ghost use lib.Dec.{ltb};
 ghost use lib.ListN.{length, replicate};
+ghost use Rattle.numbers.specs.Choice.{choose};
 ghost use Rattle.numbers.specs.Listed.{padded};
 ghost use Rattle.plan.specs.Plan.{Valid, sobol};
 ghost use Rattle.plan.specs.Answer.{axesOf, planAnswered, Accepted};
 ghost use Rattle.points.specs.Arrays.{directionsIn, directionsArray, Arrays, pointAt};
-ghost use Rattle.state.specs.State.{pick, planIn, nextPoint, made, blank, genuine};
+ghost use Rattle.state.specs.State.{planIn, nextPoint, made, blank, genuine};
 
 // A sampler: its plan, its run, and how many of the run's points are taken. `directions` has 32 words for each Sobol axis; `numerators` is
 // the next point, and 0 where none is left. Entries that are not used are 0.
@@ -86,7 +87,7 @@ pub fn next_point(
     taken: u64,
 ) -> [u64; 6]
     requires { ⌜ Arrays family axes (now bases) (now directions) × (start + count ≤ 2 ^ 32) ⌝ }
-    ensures { λ r. ⌜ r ≡ pick (ltb taken count) (pointAt family axes (now (bases .entry)) (now (directions .entry)) (start + taken)) (replicate 6 0) ⌝ }
+    ensures { λ r. ⌜ r ≡ choose (ltb taken count) (pointAt family axes (now (bases .entry)) (now (directions .entry)) (start + taken)) (replicate 6 0) ⌝ }
 {
     if taken < count {
         return points::point(family, axes, bases, directions, start + taken);
