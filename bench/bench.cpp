@@ -62,12 +62,11 @@ static void check(bool holds, const std::string &what) {
 
 static void same(const Case &c) {
     size_t n = 5000, s = (size_t)c.plan.axes;
-    std::vector<uint64_t> ours(n * s), plain(n * s), window;
-    for (uint64_t start : {0u, 12345u, 4294962296u}) {
-        check(bench_blocks(c.bytes.data(), c.bytes.size(), start, 1, ours.data(), ours.size()) == n || start > 4294000000u, c.name + ": a block");
+    std::vector<uint64_t> ours(n * s), plain(n * s);
+    for (uint64_t start : {0u, 12345u, 4293918720u}) { // a block's run has 2^20 points
+        check(bench_blocks(c.bytes.data(), c.bytes.size(), start, 1, ours.data(), ours.size()) == n, c.name + ": a block");
         baseline_block(&c.plan, start, n, plain.data());
-        if (start < 4294000000u)
-            check(ours == plain, c.name + ": points");
+        check(ours == plain, c.name + ": points");
     }
 }
 

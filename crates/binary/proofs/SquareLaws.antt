@@ -7,7 +7,7 @@ use native.Mathlib.Omega.{arith}
 use native.Mathlib.Nat.{pow-suc}
 use lib.Arith.{lt-one}
 use lib.Pow.{pow-pos, pow-lt}
-use lib.Bits.{bitXor, xor-zero-r, xor-self, xor-comm}
+use lib.Bits.{bitXor, xor-self}
 use Rattle.binary.specs.Gf2.{times, mix}
 use Rattle.binary.specs.Polynomial.{Degree, timesX}
 use Rattle.binary.specs.Power.{powerOfX, Squares}

@@ -2,7 +2,7 @@
 -- the definitions that the calls' contracts name. Definitions only.
 use mathlib.Core.List.{List, [], _∷_}
 use Prim.Native.Nat.{ℕ}
-use lib.ListN.{length, getD}
+use lib.ListN.{length}
 use Rattle.numbers.specs.Listed.{listed}
 use Rattle.permutation.specs.Faure.{faure}
 use Rattle.sobol.specs.Directions.{mList}

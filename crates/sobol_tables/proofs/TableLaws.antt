@@ -17,7 +17,7 @@ use Rattle.binary.proofs.XorLaws.{xor-half, xor-swap}
 use Rattle.binary.proofs.MixLaws.{mix-xor}
 use Rattle.sobol.specs.Stepping.{stepped, jumped}
 use Rattle.sobol.proofs.SteppingLaws.{jump-is-stepped}
-use Rattle.sobol_tables.specs.Tables.{Directions, PowerOfTwo, Starts, Table, xored}
+use Rattle.sobol_tables.specs.Tables.{Directions, Starts, Table, xored}
 
 gray-xor : (a b : ℕ) → gray (bitXor a b) ≡ bitXor (gray a) (gray b)
 gray-xor a b = ap (bitXor (bitXor a b)) (xor-half a b) ∙ xor-swap a b (a / 2) (b / 2)

@@ -1,5 +1,5 @@
 -- `numbers::quotient` meets its contract: the product's whole part is the quotient or one more, and times b it tells which. Assumes nothing.
-use mathlib.Core.Path.{_≡_, ap, _∙_}
+use mathlib.Core.Path.{_≡_, ap}
 use Prim.Native.Nat.{ℕ, _+_, _*_, _/_, _^_}
 use native.Mathlib.Omega.{arith}
 use Rattle.numbers.proofs.ReciprocalLaws.{Near, near}

@@ -1,6 +1,6 @@
 -- `sobol_marks::tiles` meets its contract: the flags up to i are tested, and each part is a run of the table. Assumes nothing.
 use mathlib.Core.Path.{ap, _∙_}
-use Prim.Native.Nat.{ℕ, _+_, _-_, _≤_}
+use Prim.Native.Nat.{ℕ, _-_, _≤_}
 use native.Mathlib.Omega.{arith}
 use denote.Ref.{now}
 use Rattle.sobol_tables.specs.Tables.{xored}

@@ -45,7 +45,6 @@ use denote.Triple.Table.{entered, cited}
 use denote.Triple.Walked.{says, Stays, stay-none, gave-slice, walkOf, goes-none, goes-gave-slice, Walks, ends-at, walked, walk-meets}
 use Rattle.calls.specs.Calls.{stepSpec, stepBuf}
 use Rattle.state.specs.declared.Sampler.{Sampler}
-use Rattle.calls.specs.declared.Moved.{Moved}
 use Rattle.state.proofs.Sampler as T
 use Rattle.state.proofs.Sampler.Laws as T′
 use Rattle.calls.proofs.Moved as S
