@@ -1,7 +1,7 @@
 -- The test of a primitive polynomial is the definition: x^e is a multiple of p plus the remainder that the test computes, and a multiple of p
 -- below 2^d is 0, so p divides x^e - 1 exactly where that remainder is 1. Assumes nothing.
 use mathlib.Core.Path.{_≡_, refl, sym, ap, ap₂, _∙_}
-use mathlib.Core.Bool.{Bool, true, false}
+use mathlib.Core.Bool.{Bool, true, false, cond}
 use mathlib.Core.Logic.{⊎-elim, _↔_}
 use Prim.Native.Nat.{ℕ, zero, suc, _+_, _-_, _*_, _/_, _%_, _^_, _≤_, _<_}
 use native.Mathlib.Omega.{arith}
@@ -16,7 +16,6 @@ use borrow.Author.Tests.{lt-ltb, le-ltb, eq-eqb, ne-eqb, eqb-true, eqb-false}
 use Rattle.binary.specs.Gf2.{times, productIn, product}
 use Rattle.binary.specs.Polynomial.{Degree, Divides, Primitive, timesX, unless, onlyLast, isPrimitive}
 use Rattle.binary.specs.Power.{powerOfX}
-use Rattle.numbers.specs.Choice.{choose}
 use Rattle.numbers.proofs.Cases.{lt-or-ge}
 use Rattle.binary.proofs.XorLaws.{xor-half, xor-assoc, xor-swap, xor-cancel, xor-eq-zero, xor-double}
 use Rattle.binary.proofs.MixLaws.{times-digit-xor, times-lt}
@@ -100,11 +99,11 @@ unless-true false c t = (refl, t)
 
 pub timesX-less : (top p r : ℕ) → r * 2 < top → timesX top p r ≡ r * 2
 unfolding timesX
-timesX-less top p r h = ap (λ (b : Bool). choose b (r * 2) (bitXor (r * 2) p)) (lt-ltb (r * 2) top h)
+timesX-less top p r h = ap (λ (b : Bool). cond b (r * 2) (bitXor (r * 2) p)) (lt-ltb (r * 2) top h)
 
 pub timesX-more : (top p r : ℕ) → top ≤ r * 2 → timesX top p r ≡ bitXor (r * 2) p
 unfolding timesX
-timesX-more top p r h = ap (λ (b : Bool). choose b (r * 2) (bitXor (r * 2) p)) (le-ltb (r * 2) top h)
+timesX-more top p r h = ap (λ (b : Bool). cond b (r * 2) (bitXor (r * 2) p)) (le-ltb (r * 2) top h)
 
 -- ---- a polynomial p of degree d, from 1 up
 

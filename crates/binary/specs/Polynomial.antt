@@ -1,11 +1,10 @@
 -- Primitive polynomials over two elements: the definition of 01-scope.md, and a test that computes it. Definitions only.
 -- The polynomial x^d + a_1 x^(d-1) + .. + a_(d-1) x + 1 is the number 2^d + a_1 2^(d-1) + .. + a_(d-1) 2 + 1.
 use mathlib.Core.Path.{_≡_}
-use mathlib.Core.Bool.{Bool, true, false}
+use mathlib.Core.Bool.{Bool, true, false, cond}
 use Prim.Native.Nat.{ℕ, zero, suc, _-_, _*_, _^_, _≤_, _<_}
 use lib.Dec.{ltb, eqb}
 use lib.Bits.{bitXor}
-use Rattle.numbers.specs.Choice.{choose}
 use Rattle.numbers.specs.Digits.{digitCount}
 use Rattle.binary.specs.Gf2.{product}
 
@@ -31,7 +30,7 @@ pub record Primitive (d p : ℕ) : Type 0 where
 
 -- x times r, modulo p; top is 2^d
 unfoldable pub timesX : ℕ → ℕ → ℕ → ℕ
-timesX top p r = choose (ltb (r * 2) top) (r * 2) (bitXor (r * 2) p)
+timesX top p r = cond (ltb (r * 2) top) (r * 2) (bitXor (r * 2) p)
 
 abbrev pub unless : Bool → Bool → Bool
 unless true b = false

@@ -1,6 +1,6 @@
 -- The window count: when a window is turned down, what putting S and the bound leaves, and each answer from the tests that lead to it. Assumes nothing.
 use mathlib.Core.Path.{_≡_, refl, _∙_}
-use mathlib.Core.Bool.{true, false, and-eq-true-iff}
+use mathlib.Core.Bool.{true, false, and-eq-true-iff, cond}
 use mathlib.Core.Logic.{⊎-elim}
 use mathlib.Core.List.{List, [], _∷_, _++_}
 use Prim.Native.Nat.{ℕ, _+_, _*_}
@@ -8,7 +8,6 @@ use native.Mathlib.Omega.{arith}
 use lib.Dec.{eqb}
 use lib.ListN.{length, drop}
 use borrow.Author.Tests.{eq-eqb, ne-eqb, eqb-true}
-use Rattle.numbers.specs.Choice.{choose}
 use Rattle.numbers.specs.Count.{count}
 use Rattle.numbers.proofs.Cases.{true-or-false}
 use Rattle.bits.specs.Stream.{overwrite}
@@ -44,7 +43,7 @@ module _ (bytes : List ℕ) (s : ℕ) where
   unfolding windowRefusal
   refusal-bytes z = ⊎-elim (λ t. t) (λ f. absurd (omega (arith, off f))) (true-or-false (isWindowBytes bytes s))
     where
-      off : isWindowBytes bytes s ≡ false → choose {A = ℕ} (isWindowBytes bytes s) 0 14 ≡ 14
+      off : isWindowBytes bytes s ≡ false → cond {A = ℕ} (isWindowBytes bytes s) 0 14 ≡ 14
       off f = rw f refl
 
   pub window-bytes : isWindowBytes bytes s ≡ true → (length bytes ≡ 8 * s) × (isWindow (windowIn bytes s) s ≡ true)

@@ -1,11 +1,10 @@
 -- What each C call answers, for all inputs, and what each lent byte then holds (01-scope.md, "What the collector carries" and "When a call is
 -- turned down"). A refusal answers its number and changes no byte. Definitions only.
-use mathlib.Core.Bool.{Bool, _&&_}
+use mathlib.Core.Bool.{Bool, _&&_, cond}
 use mathlib.Core.List.{List, [], _∷_, _++_}
 use Prim.Native.Nat.{ℕ, _+_, _*_}
 use lib.Dec.{eqb}
 use lib.ListN.{length, drop}
-use Rattle.numbers.specs.Choice.{choose}
 use Rattle.plan.specs.Plan.{Plan}
 use Rattle.plan.specs.Reading.{Reading, refused, accepted, readPlan}
 use Rattle.points.specs.Point.{axisCount, pointOf}
@@ -26,7 +25,7 @@ pointCode plan index out = pointCodeBy (readPlan plan) index out
 unfoldable pub pointBytesBy : Reading → ℕ → List ℕ → List ℕ
 pointBytesBy (refused n) index out = out
 pointBytesBy (accepted p) index out =
-    choose (eqb (pointCodeBy (accepted p) index out) 0) (wordBytes (pointOf p index) ++ drop (8 * axisCount p) out) out
+    cond (eqb (pointCodeBy (accepted p) index out) 0) (wordBytes (pointOf p index) ++ drop (8 * axisCount p) out) out
 
 unfoldable pub pointBytes : List ℕ → ℕ → List ℕ → List ℕ
 pointBytes plan index out = pointBytesBy (readPlan plan) index out
@@ -38,7 +37,7 @@ unfoldable pub isWindowBytes : List ℕ → ℕ → Bool
 isWindowBytes window s = eqb (length window) (8 * s) && isWindow (windowIn window s) s
 
 unfoldable pub windowRefusal : List ℕ → ℕ → ℕ
-windowRefusal window s = choose (isWindowBytes window s) 0 14
+windowRefusal window s = cond (isWindowBytes window s) 0 14
 
 -- S and the bound
 unfoldable pub answersOf : Plan → ℕ → ℕ → List ℕ → List ℕ
@@ -55,7 +54,7 @@ countCode plan start count window out = countCodeBy (readPlan plan) start count 
 unfoldable pub countBytesBy : Reading → ℕ → ℕ → List ℕ → List ℕ → List ℕ
 countBytesBy (refused n) start count window out = out
 countBytesBy (accepted p) start count window out =
-    choose (eqb (countCodeBy (accepted p) start count window out) 0)
+    cond (eqb (countCodeBy (accepted p) start count window out) 0)
     (wordBytes (answersOf p start count window) ++ drop 16 out) out
 
 unfoldable pub countBytes : List ℕ → ℕ → ℕ → List ℕ → List ℕ → List ℕ

@@ -1,14 +1,13 @@
 -- The C window count is a reading, an opening and a count: it answers the first number that these give, and leaves the bytes of what the count
 -- answers. Assumes nothing.
 use mathlib.Core.Path.{_≡_, refl}
-use mathlib.Core.Bool.{true, false}
+use mathlib.Core.Bool.{true, false, cond}
 use mathlib.Core.Logic.{⊎-elim}
 use mathlib.Core.List.{List, [], _∷_, _++_}
 use Prim.Native.Nat.{ℕ, _+_, _*_, _^_, _≤_, _<_}
 use lib.Dec.{eqb, ltb}
 use lib.ListN.{length, drop}
 use borrow.Author.Tests.{lt-ltb, le-ltb, eq-eqb, ne-eqb}
-use Rattle.numbers.specs.Choice.{choose}
 use Rattle.numbers.proofs.Cases.{lt-or-ge, true-or-false}
 use Rattle.bits.specs.Stream.{AllBelow}
 use Rattle.plan.specs.Plan.{Plan}
@@ -31,7 +30,7 @@ use Rattle.hisowake.specs.Calls.{isWindowBytes, windowRefusal, answersOf, count
 
 -- the first number of the reading, the opening, the count and the room that is not 0
 abbrev pub firstOf : ℕ → ℕ → ℕ → ℕ → ℕ
-firstOf reading opening counting room = choose (eqb reading 0) (choose (eqb opening 0) (choose (eqb counting 0) room counting) opening) reading
+firstOf reading opening counting room = cond (eqb reading 0) (cond (eqb opening 0) (cond (eqb counting 0) room counting) opening) reading
 
 module _ (plan : List ℕ) (below : AllBelow 256 plan) (p : Plan) (e : readPlan plan ≡ accepted p) (start N : ℕ) (window out : List ℕ) (long : length window ≡ 8 * axisCount p) where
   -- the numbers of the window's bytes
@@ -44,9 +43,9 @@ module _ (plan : List ℕ) (below : AllBelow 256 plan) (p : Plan) (e : readPlan 
       let r = readSpec plan in
       let o = openSpec (r .state) start N in
       let c = countSpec (o .state) w in
-      (countCode plan start N window out ≡ firstOf (r .code) (o .code) (c .code) (choose (ltb (length out) 16) 13 0))
+      (countCode plan start N window out ≡ firstOf (r .code) (o .code) (c .code) (cond (ltb (length out) 16) 13 0))
       × (countBytes plan start N window out
-      ≡ choose (eqb (countCode plan start N window out) 0) (wordBytes (c .inside ∷ c .bound ∷ []) ++ drop 16 out) out)
+      ≡ cond (eqb (countCode plan start N window out) 0) (wordBytes (c .inside ∷ c .bound ∷ []) ++ drop 16 out) out)
 
   read-is : readSpec plan ≡ moved 0 (made p 0 0 0)
   read-is = read-left plan below p e .0
@@ -54,7 +53,7 @@ module _ (plan : List ℕ) (below : AllBelow 256 plan) (p : Plan) (e : readPlan 
   start-left : Left p 0 0 0
   start-left = read-left plan below p e .1
 
-  window-is : windowRefusal window (axisCount p) ≡ choose (isWindow w (axisCount p)) 0 14
+  window-is : windowRefusal window (axisCount p) ≡ cond (isWindow w (axisCount p)) 0 14
   unfolding windowRefusal isWindowBytes
   window-is = rw (eq-eqb (length window) (8 * axisCount p) long) refl
 

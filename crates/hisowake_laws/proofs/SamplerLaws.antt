@@ -1,6 +1,6 @@
 -- The C point is a reading and a jump: on the bytes of words it leaves the bytes of what these leave. Assumes nothing.
 use mathlib.Core.Path.{_≡_, refl, sym, ap, _∙_}
-use mathlib.Core.Bool.{true, false}
+use mathlib.Core.Bool.{true, false, cond}
 use mathlib.Core.Logic.{⊎-elim}
 use mathlib.Core.List.{List, _++_, append-assoc}
 use Prim.Native.Nat.{ℕ, _+_, _*_, _^_, _≤_, _<_}
@@ -9,7 +9,6 @@ use lib.Dec.{eqb}
 use lib.ListN.{length, drop, length-append}
 use lib.Seq.{drop-append-le}
 use borrow.Author.Tests.{ne-eqb}
-use Rattle.numbers.specs.Choice.{choose}
 use Rattle.numbers.proofs.Cases.{lt-or-ge}
 use Rattle.bits.specs.Stream.{AllBelow}
 use Rattle.plan.specs.Plan.{Plan, Valid}
@@ -36,7 +35,7 @@ use Rattle.hisowake.proofs.CallLaws.{point-refused, point-turned, point-done}
 abbrev pub AsSampler : List ℕ → ℕ → List ℕ → List ℕ → Type 0
 AsSampler plan index words rest =
     (pointCode plan index (wordBytes words ++ rest)
-    ≡ choose (eqb (readSpec plan .code) 0) (jumpSpec (readSpec plan .state) index words .code) (readSpec plan .code))
+    ≡ cond (eqb (readSpec plan .code) 0) (jumpSpec (readSpec plan .state) index words .code) (readSpec plan .code))
     × (pointBytes plan index (wordBytes words ++ rest) ≡ wordBytes (jumpBuf (readSpec plan .state) index words) ++ rest)
 
 module _ (plan : List ℕ) (index : ℕ) (words rest : List ℕ) (short : length rest < 8) where

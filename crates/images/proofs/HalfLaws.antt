@@ -3,7 +3,7 @@ use mathlib.Core.Path.{_≡_, sym, ap, _∙_}
 use Prim.Native.Nat.{ℕ, _+_, _-_, _*_, _/_, _%_, _<_, _≤_}
 use native.Mathlib.Omega.{arith}
 use Rattle.permutation.specs.Faure.{closeGap, openGap, faure}
-use Rattle.permutation.proofs.FaureRules.{choose-low, choose-high, odd-aside, faure-odd, even-lower, even-upper}
+use Rattle.permutation.proofs.FaureRules.{cond-low, cond-high, odd-aside, faure-odd, even-lower, even-upper}
 
 -- ---- an even base above 2
 
@@ -30,13 +30,13 @@ module _ {b k : ℕ} (big : 5 ≤ b) (odd : b % 2 ≡ 1) (below : k < b / 2) whe
   pub odd-low : openGap (b / 2) (2 * faure (b / 2) k) ≡ faure b k
   odd-low =
       ap (openGap (b / 2)) (ap (λ (h : ℕ). 2 * faure h k) (sym half) ∙ sym (even-lower (b - 1) k (omega arith) (omega arith) (omega arith)))
-      ∙ sym (off-centre b k k (omega arith) odd (omega arith) (choose-low (b / 2) k k (k - 1) below))
+      ∙ sym (off-centre b k k (omega arith) odd (omega arith) (cond-low (b / 2) k k (k - 1) below))
 
   pub odd-high : openGap (b / 2) (2 * faure (b / 2) k + 1) ≡ faure b (b / 2 + 1 + k)
   odd-high =
       ap (openGap (b / 2)) (again (b / 2) (omega arith))
       ∙ sym (off-centre b (b / 2 + 1 + k) (b / 2 + k) (omega arith) odd (omega arith)
-      (choose-high (b / 2) (b / 2 + 1 + k) (b / 2 + 1 + k) (b / 2 + 1 + k - 1) (omega arith) ∙ omega arith))
+      (cond-high (b / 2) (b / 2 + 1 + k) (b / 2 + 1 + k) (b / 2 + 1 + k - 1) (omega arith) ∙ omega arith))
     where
       again : (h : ℕ) → h ≡ (b - 1) / 2 → 2 * faure h k + 1 ≡ faure (b - 1) (h + k)
       again h e =

@@ -1,6 +1,6 @@
 -- The walk over a run held in arrays: what an axis leaves of the flags, and what parts of a run add up to. Assumes nothing.
 use mathlib.Core.Path.{_≡_, refl, sym, ap, _∙_}
-use mathlib.Core.Bool.{Bool, true, false, _&&_}
+use mathlib.Core.Bool.{Bool, true, false, _&&_, cond}
 use mathlib.Core.List.{List}
 use Prim.Native.Nat.{ℕ, _+_, _-_, _*_, _/_, _≤_, _<_}
 use native.Mathlib.Nat.{add-assoc, add-mul, le-div-iff-mul-le}
@@ -8,7 +8,6 @@ use native.Mathlib.Numerals.{add-one}
 use native.Mathlib.Omega.{arith}
 use lib.Dec.{ltb}
 use lib.ListN.{length, take, drop, getD, replicate, getD-replicate}
-use Rattle.numbers.specs.Choice.{choose}
 use Rattle.numbers.specs.Count.{bit, count}
 use Rattle.numbers.specs.Cut.{belowCut}
 use Rattle.numbers.proofs.Cases.{lt-iff}
@@ -44,7 +43,7 @@ limit-cut x d u q pos = lt-iff x ((u * d + (q - 1)) / q) (x * q) (u * d) (λ h. 
     back : x * q < u * d → x < (u * d + (q - 1)) / q
     back h = omega (arith, le-div-iff-mul-le {k = q} {x = x + 1} {y = u * d + (q - 1)} pos .1 (omega (arith, add-mul x 1 q)))
 
-keep-bit : (a b : Bool) → choose b (bit a) 0 ≡ bit (a && b)
+keep-bit : (a b : Bool) → cond b (bit a) 0 ≡ bit (a && b)
 keep-bit true true = refl
 keep-bit true false = refl
 keep-bit false true = refl

@@ -1,4 +1,3 @@
-pub mod Choice
 pub mod Gcd
 pub mod Digits
 pub mod Depth

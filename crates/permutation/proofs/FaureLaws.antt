@@ -1,24 +1,24 @@
 -- Faure's permutation is one, with 0 first, in every base from 2 up: each rule makes a permutation of a permutation, and the base falls.
 -- Assumes nothing.
 use mathlib.Core.Path.{_≡_, refl, sym, ap, _∙_, subst}
+use mathlib.Core.Bool.{cond}
 use mathlib.Core.Logic.{⊎-elim}
 use Prim.Native.Nat.{ℕ, zero, suc, _+_, _-_, _*_, _/_, _%_, _<_, _≤_}
 use native.Mathlib.Nat.{le-refl}
 use native.Mathlib.Omega.{arith}
 use lib.Dec.{eqb}
 use borrow.Author.Tests.{eq-eqb, ne-eqb}
-use Rattle.numbers.specs.Choice.{choose}
 use Rattle.numbers.proofs.Cases.{lt-or-ge, eq-or-ne, even-or-odd}
 use Rattle.permutation.specs.Permutes.{Permutes}
 use Rattle.permutation.specs.Faure.{evenRule, closeGap, openGap, oddRule, faureIn, faure}
 use Rattle.permutation.proofs.PermutationLaws.{identity-permutes, permutes-same}
-use Rattle.permutation.proofs.FaureRules.{even-low, even-high, odd-centre, odd-aside, choose-low, choose-high, faure-two, faure-even, faure-odd}
+use Rattle.permutation.proofs.FaureRules.{even-low, even-high, odd-centre, odd-aside, cond-low, cond-high, faure-two, faure-even, faure-odd}
 
 -- ---- the even rule
 
 -- what undoes it: the lowest bit says the half
 evenInverse : (ℕ → ℕ) → ℕ → ℕ → ℕ
-evenInverse τ h r = choose (eqb (r % 2) 0) (τ (r / 2)) (h + τ (r / 2))
+evenInverse τ h r = cond (eqb (r % 2) 0) (τ (r / 2)) (h + τ (r / 2))
 
 inverse-even : (τ : ℕ → ℕ) (h r : ℕ) → r % 2 ≡ 0 → evenInverse τ h r ≡ τ (r / 2)
 unfolding evenInverse
@@ -74,25 +74,25 @@ module _ {σ : ℕ → ℕ} {h : ℕ} (p : Permutes h σ) where
 
 close-open : (c r : ℕ) → closeGap c (openGap c r) ≡ r
 close-open c r =
-    ⊎-elim (λ a. rw (choose-low c r r (r + 1) a) (choose-low c r r (r - 1) a))
-    (λ a. rw (choose-high c r r (r + 1) a) (choose-high c (r + 1) (r + 1) (r + 1 - 1) (omega arith) ∙ omega arith)) (lt-or-ge r c)
+    ⊎-elim (λ a. rw (cond-low c r r (r + 1) a) (cond-low c r r (r - 1) a))
+    (λ a. rw (cond-high c r r (r + 1) a) (cond-high c (r + 1) (r + 1) (r + 1 - 1) (omega arith) ∙ omega arith)) (lt-or-ge r c)
 
 open-close : (c k : ℕ) → (k ≡ c → ⊥) → openGap c (closeGap c k) ≡ k
 open-close c k f =
-    ⊎-elim (λ a. rw (choose-low c k k (k - 1) a) (choose-low c k k (k + 1) a))
-    (λ a. rw (choose-high c k k (k - 1) a) (choose-high c (k - 1) (k - 1) (k - 1 + 1) (omega arith) ∙ omega arith)) (lt-or-ge k c)
+    ⊎-elim (λ a. rw (cond-low c k k (k - 1) a) (cond-low c k k (k + 1) a))
+    (λ a. rw (cond-high c k k (k - 1) a) (cond-high c (k - 1) (k - 1) (k - 1 + 1) (omega arith) ∙ omega arith)) (lt-or-ge k c)
 
 open-off : (c r : ℕ) → openGap c r ≡ c → ⊥
 open-off c r e =
-    ⊎-elim (λ a. omega (arith, choose-low c r r (r + 1) a)) (λ a. omega (arith, choose-high c r r (r + 1) a)) (lt-or-ge r c)
+    ⊎-elim (λ a. omega (arith, cond-low c r r (r + 1) a)) (λ a. omega (arith, cond-high c r r (r + 1) a)) (lt-or-ge r c)
 
 open-below : (c r : ℕ) → r < 2 * c → openGap c r < 2 * c + 1
 open-below c r l =
-    ⊎-elim (λ a. rw (choose-low c r r (r + 1) a) (omega arith)) (λ a. rw (choose-high c r r (r + 1) a) (omega arith)) (lt-or-ge r c)
+    ⊎-elim (λ a. rw (cond-low c r r (r + 1) a) (omega arith)) (λ a. rw (cond-high c r r (r + 1) a) (omega arith)) (lt-or-ge r c)
 
 pub close-below : (c k : ℕ) → (k ≡ c → ⊥) → k < 2 * c + 1 → closeGap c k < 2 * c
 close-below c k f l =
-    ⊎-elim (λ a. rw (choose-low c k k (k - 1) a) (omega arith)) (λ a. rw (choose-high c k k (k - 1) a) (omega arith)) (lt-or-ge k c)
+    ⊎-elim (λ a. rw (cond-low c k k (k - 1) a) (omega arith)) (λ a. rw (cond-high c k k (k - 1) a) (omega arith)) (lt-or-ge k c)
 
 -- the odd rule over an inverse undoes the odd rule
 odd-undoes : (σ τ : ℕ → ℕ) (c : ℕ) → ((x : ℕ) → x < 2 * c → τ (σ x) ≡ x) → (k : ℕ) → k < 2 * c + 1 → oddRule τ c (oddRule σ c k) ≡ k
@@ -114,7 +114,7 @@ odd-permutes {σ} {c} p l =
       inverse-below = odd-below (p .inverse) c (p .inverse-below);
       back = odd-undoes σ (p .inverse) c (p .back);
       onto = odd-undoes (p .inverse) σ c (p .onto);
-      zero-first = odd-aside σ c 0 (omega arith) ∙ rw (choose-low c 0 0 (0 - 1) l, p .zero-first) (choose-low c 0 0 (0 + 1) l);
+      zero-first = odd-aside σ c 0 (omega arith) ∙ rw (cond-low c 0 0 (0 - 1) l, p .zero-first) (cond-low c 0 0 (0 + 1) l);
     }
 
 -- ---- every base

@@ -1,13 +1,12 @@
 -- Faure's rule as 01-scope.md states it: one law a case, at every base. Assumes nothing.
 use mathlib.Core.Path.{_≡_, refl, sym, ap, _∙_, fun-ext}
 use mathlib.Core.Logic.{⊎-elim}
-use mathlib.Core.Bool.{Bool, true, false}
+use mathlib.Core.Bool.{Bool, true, false, cond}
 use Prim.Native.Nat.{ℕ, zero, suc, _+_, _-_, _*_, _/_, _%_, _<_, _≤_}
 use native.Mathlib.Nat.{le-refl}
 use native.Mathlib.Omega.{arith}
 use lib.Dec.{leb, ltb, eqb}
 use borrow.Author.Tests.{lt-ltb, le-ltb, le-leb, lt-leb, eq-eqb, ne-eqb, leb-false}
-use Rattle.numbers.specs.Choice.{choose}
 use Rattle.numbers.proofs.Cases.{lt-or-ge}
 use Rattle.permutation.specs.Faure.{evenRule, closeGap, openGap, oddRule, ruleAt, faureIn, faure}
 
@@ -31,11 +30,11 @@ module _ (σ : ℕ → ℕ) where
   odd-aside c k p = rw (ne-eqb k c p)
 
 -- the first of two numbers where k is below c, and the second from c up
-pub choose-low : (c k x y : ℕ) → k < c → choose (ltb k c) x y ≡ x
-choose-low c k x y p = rw (lt-ltb k c p)
+pub cond-low : (c k x y : ℕ) → k < c → cond (ltb k c) x y ≡ x
+cond-low c k x y p = rw (lt-ltb k c p)
 
-pub choose-high : (c k x y : ℕ) → c ≤ k → choose (ltb k c) x y ≡ y
-choose-high c k x y p = rw (le-ltb k c p)
+pub cond-high : (c k x y : ℕ) → c ≤ k → cond (ltb k c) x y ≡ y
+cond-high c k x y p = rw (le-ltb k c p)
 
 -- ---- the rule at each base
 
@@ -115,10 +114,10 @@ even-upper b k l e le = faure-even b k l e ∙ even-high (faure (b / 2)) (b / 2)
 
 -- both in one: the image of the digit's place in its half, and which half it is
 abbrev pub placeIn : ℕ → ℕ → ℕ
-placeIn h k = choose (ltb k h) k (k - h)
+placeIn h k = cond (ltb k h) k (k - h)
 
 abbrev pub halfOf : ℕ → ℕ → ℕ
-halfOf h k = choose (ltb k h) 0 1
+halfOf h k = cond (ltb k h) 0 1
 
 pub even-halves : (b k : ℕ) → 2 < b → b % 2 ≡ 0 → faure b k ≡ 2 * faure (b / 2) (placeIn (b / 2) k) + halfOf (b / 2) k
 even-halves b k l e =
@@ -139,8 +138,8 @@ module _ {b k r : ℕ} (l : 2 < b) (e : b % 2 ≡ 1) (off : k ≡ b / 2 → ⊥)
 
   -- the answer is r where r is below c
   pub odd-kept : r < b / 2 → faure b k ≡ r
-  odd-kept lt = aside ∙ choose-low (b / 2) r r (r + 1) lt
+  odd-kept lt = aside ∙ cond-low (b / 2) r r (r + 1) lt
 
   -- else r + 1
   pub odd-raised : b / 2 ≤ r → faure b k ≡ r + 1
-  odd-raised le = aside ∙ choose-high (b / 2) r r (r + 1) le
+  odd-raised le = aside ∙ cond-high (b / 2) r r (r + 1) le

@@ -1,8 +1,7 @@
 -- Faure's permutation of the digits 0 to b - 1, by the even and the odd rule of 01-scope.md, for every base. Definitions only.
-use mathlib.Core.Bool.{Bool, true, false}
+use mathlib.Core.Bool.{Bool, true, false, cond}
 use Prim.Native.Nat.{ℕ, zero, suc, _+_, _-_, _*_, _/_, _%_}
 use lib.Dec.{leb, ltb, eqb}
-use Rattle.numbers.specs.Choice.{choose}
 
 -- The even rule at half h: a digit k below h goes to twice its image in base h, any other to twice the image of k - h, plus 1.
 abbrev pub evenAt : Bool → (ℕ → ℕ) → ℕ → ℕ → ℕ
@@ -15,10 +14,10 @@ evenRule σ h k = evenAt (ltb k h) σ h k
 -- The odd rule at centre c: c stays c. Else r is the image, in the base one less, of k below c or of k - 1 above c; the answer is r where
 -- r is below c, else r + 1.
 abbrev pub closeGap : ℕ → ℕ → ℕ
-closeGap c k = choose (ltb k c) k (k - 1)
+closeGap c k = cond (ltb k c) k (k - 1)
 
 abbrev pub openGap : ℕ → ℕ → ℕ
-openGap c r = choose (ltb r c) r (r + 1)
+openGap c r = cond (ltb r c) r (r + 1)
 
 abbrev pub oddAt : Bool → (ℕ → ℕ) → ℕ → ℕ → ℕ
 oddAt true σ c k = c

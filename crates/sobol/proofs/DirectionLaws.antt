@@ -1,7 +1,7 @@
 -- The m's of the recurrence are odd and below 2^i, since every term but m_(i+1-d) is even; so the direction numbers are below 2^32. And what the
 -- loops that fill the lists show at each turn. Assumes nothing.
 use mathlib.Core.Path.{_≡_, refl, sym, ap, ap₂, _∙_, subst}
-use mathlib.Core.Bool.{Bool}
+use mathlib.Core.Bool.{Bool, cond}
 use mathlib.Core.List.{List, [], _∷_, _++_}
 use mathlib.Core.Logic.{⊎-elim}
 use Prim.Native.Nat.{ℕ, zero, suc, _+_, _-_, _*_, _/_, _%_, _^_, _≤_, _<_}
@@ -14,7 +14,6 @@ use lib.Seq.{getD-at, getD-take, getD-set-same, getD-set-other, take-suc-set}
 use lib.Bits.{bitXor, bitAnd, xor-lt, xor-zero-r, shifted-even}
 use borrow.Author.Tests.{lt-ltb, le-ltb}
 use Rattle.binary.specs.Gf2.{times}
-use Rattle.numbers.specs.Choice.{choose}
 use Rattle.numbers.proofs.Cases.{lt-or-ge}
 use Rattle.binary.proofs.XorLaws.{xor-odd}
 use Rattle.binary.proofs.MixLaws.{times-lt, times-set, times-clear}
@@ -64,10 +63,10 @@ m-rule-odd-below (suc d) p ms i h g = terms-odd-below (suc d) p ms i (suc d) (om
 
 module _ (d p : ℕ) (given : List ℕ) where
   pub m-next-given : (i : ℕ) (ms : List ℕ) → i < d → mNext d p given i ms ≡ getD given i 0
-  m-next-given i ms h = ap (λ (b : Bool). choose b (getD given i 0) (mRule d p ms i)) (lt-ltb i d h)
+  m-next-given i ms h = ap (λ (b : Bool). cond b (getD given i 0) (mRule d p ms i)) (lt-ltb i d h)
 
   pub m-next-rule : (i : ℕ) (ms : List ℕ) → d ≤ i → mNext d p given i ms ≡ mRule d p ms i
-  m-next-rule i ms h = ap (λ (b : Bool). choose b (getD given i 0) (mRule d p ms i)) (le-ltb i d h)
+  m-next-rule i ms h = ap (λ (b : Bool). cond b (getD given i 0) (mRule d p ms i)) (le-ltb i d h)
 
   pub m-list-length : (n : ℕ) → length (mList d p given n) ≡ n
   unfolding mList

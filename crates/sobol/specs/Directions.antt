@@ -1,13 +1,13 @@
 -- The direction numbers of a Sobol axis. A polynomial of degree d is the number p whose digit d - k is a_k, with a_0 = a_d = 1.
 -- A list of m's has m_1 first, so that m_(i+1) stands at place i. Definitions only.
 use mathlib.Core.Path.{_≡_}
+use mathlib.Core.Bool.{cond}
 use mathlib.Core.List.{List, [], _∷_, _++_}
 use Prim.Native.Nat.{ℕ, zero, suc, _-_, _*_, _/_, _%_, _^_, _<_}
 use lib.Dec.{ltb}
 use lib.ListN.{getD}
 use lib.Bits.{bitXor}
 use Rattle.binary.specs.Gf2.{times}
-use Rattle.numbers.specs.Choice.{choose}
 
 -- 2^k a_k m_(i+1-k)
 abbrev pub mTerm : ℕ → ℕ → List ℕ → ℕ → ℕ → ℕ
@@ -25,7 +25,7 @@ mRule (suc d) p ms i = mTerms (suc d) p ms i (suc d)
 
 -- m_(i+1) from m_1 to m_i: given up to m_d, and then by the recurrence
 abbrev pub mNext : ℕ → ℕ → List ℕ → ℕ → List ℕ → ℕ
-mNext d p given i ms = choose (ltb i d) (getD given i 0) (mRule d p ms i)
+mNext d p given i ms = cond (ltb i d) (getD given i 0) (mRule d p ms i)
 
 abbrev pub mMore : ℕ → ℕ → List ℕ → ℕ → List ℕ → List ℕ
 mMore d p given i ms = ms ++ (mNext d p given i ms ∷ [])

@@ -1,6 +1,6 @@
 -- Reading one Sobol axis: the test for a repeated polynomial, and the axis by the tests. Assumes nothing.
 use mathlib.Core.Path.{_≡_, refl, sym, ap, _∙_}
-use mathlib.Core.Bool.{Bool, true, false, _||_}
+use mathlib.Core.Bool.{Bool, true, false, _||_, cond}
 use mathlib.Core.List.{List, [], _∷_, _++_}
 use Prim.Native.Nat.{ℕ, zero, suc, _+_, _-_, _<_, _≤_}
 use native.Mathlib.Omega.{arith}
@@ -8,7 +8,6 @@ use lib.Dec.{ltb, eqb}
 use lib.ListN.{length, take, drop, getD, replicate}
 use lib.Seq.{drop-drop}
 use borrow.Author.Tests.{lt-ltb, le-ltb, eq-eqb, ne-eqb}
-use Rattle.numbers.specs.Choice.{choose}
 use Rattle.binary.specs.Polynomial.{Degree}
 use Rattle.bits.specs.Stream.{ofBits, bitsOf, fieldAt}
 use Rattle.bits.proofs.StreamLaws.{field-lt}
@@ -88,7 +87,7 @@ module _ (earlier : List Axis) (l : List ℕ) (d : ℕ) (e : ltb (length l) 4 �
 
 -- the code that the m's answer, after the test for a repeated polynomial
 tested : (t : Bool) (code p : ℕ) (ms l : List ℕ)
-    → refuseIf t 9 (andThen (stepOf code ms l) (afterMs p)) ≡ stepOf (choose t 9 code) (record { polynomial = p; ms = ms }) l
+    → refuseIf t 9 (andThen (stepOf code ms l) (afterMs p)) ≡ stepOf (cond t 9 code) (record { polynomial = p; ms = ms }) l
 unfolding refuseIf andThen
 tested true code p ms l = refl
 tested false zero p ms l = refl
@@ -168,7 +167,7 @@ module _ (bytes ps : List ℕ) (start n : ℕ) where
     axis-unfit t = axis-refuses 6 (λ b. unfit _ _ d (h .degree .long) (is-d (h .degree)) (le-ltb 12 d (h .most)) long p is-p (sym eu ∙ t))
 
     module _ (tu : u ≡ false) {t : Bool} (et : (b : List ℕ) → t ≡ isRepeated p (axesOf ps b n)) {mc mat : ℕ} {ms : List ℕ} (m : MsSay bytes (start + 4 + w) d mc mat ms)
-        {code : ℕ} (ec : code ≡ choose t 9 mc) where
+        {code : ℕ} (ec : code ≡ cond t 9 mc) where
       answered : (b : List ℕ) → readAxis (axesOf ps b n) (drop start (bitsOf bytes)) ≡ stepOf code (record { polynomial = p; ms = take d ms }) (drop mat (bitsOf bytes))
       answered b =
           rw ec

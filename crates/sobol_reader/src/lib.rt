@@ -1,10 +1,10 @@
 // Reading the axes of a Sobol plan: the fields in their order, and the first refusal that holds.
 use plan::refusal;
 ghost use mathlib.Core.Path.{_≡_};
+ghost use mathlib.Core.Bool.{cond};
 ghost use mathlib.Core.List.{List};
 ghost use Prim.Native.Nat.{ℕ, _+_, _-_, _*_, _<_, _≤_};
 ghost use lib.ListN.{length, replicate};
-ghost use Rattle.numbers.specs.Choice.{choose};
 ghost use Rattle.binary.specs.Polynomial.{Degree};
 ghost use Rattle.plan.specs.Reading.{polynomialOf, notPrimitive, isRepeated};
 ghost use Rattle.plan.specs.Answer.{axesOf};
@@ -94,7 +94,7 @@ fn not_primitive(d: u64, p: u64) -> bool
 
 // The refusal after the coefficients: that of a repeated polynomial comes before those of the m's.
 fn first_refusal(repeated: bool, code: u64) -> u64
-    ensures { λ r. ⌜ r ≡ choose repeated 9 code ⌝ }
+    ensures { λ r. ⌜ r ≡ cond repeated 9 code ⌝ }
 {
     if repeated {
         refusal::REPEATED_POLYNOMIAL

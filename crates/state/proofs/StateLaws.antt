@@ -1,13 +1,12 @@
 -- The arrays of an accepted answer and of a genuine state are its plan's, so that the points by them are the plan's points. Assumes nothing.
 use mathlib.Core.Path.{_≡_, refl, sym, ap, _∙_}
-use mathlib.Core.Bool.{Bool, true, false}
+use mathlib.Core.Bool.{Bool, true, false, cond}
 use mathlib.Core.List.{List}
 use Prim.Native.Nat.{ℕ, _+_, _<_, _≤_}
 use native.Mathlib.Omega.{arith}
 use lib.Dec.{ltb}
 use lib.ListN.{replicate, take}
 use borrow.Author.Tests.{lt-ltb, le-ltb, eq-eqb, ne-eqb}
-use Rattle.numbers.specs.Choice.{choose}
 use Rattle.numbers.specs.Listed.{padded}
 use Rattle.plan.specs.Plan.{Plan, halton, sobol, Valid}
 use Rattle.plan.specs.Reading.{accepted}
@@ -50,9 +49,9 @@ module _ {p : Plan} {family axes : ℕ} {bases vs : List ℕ} (h : Holds p famil
   holds-points n k = rw (h .family-is, h .axes-is, h .bases-is, h .directions-is) (points-at-plan p v n k)
 
   pub holds-next : (start count taken : ℕ)
-      → choose (ltb taken count) (pointAt family axes bases vs (start + taken)) (replicate 6 0) ≡ nextPoint p start count taken
+      → cond (ltb taken count) (pointAt family axes bases vs (start + taken)) (replicate 6 0) ≡ nextPoint p start count taken
   unfolding nextPoint
-  holds-next start count taken = ap (λ (x : List ℕ). choose (ltb taken count) x (replicate 6 0)) (holds-point (start + taken))
+  holds-next start count taken = ap (λ (x : List ℕ). cond (ltb taken count) x (replicate 6 0)) (holds-point (start + taken))
 
 -- the state of these arrays
 pub holds-made : {p : Plan} {family axes : ℕ} {bases vs : List ℕ} → Holds p family axes bases vs → (ps x : List ℕ) (start count taken : ℕ)

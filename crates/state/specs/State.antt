@@ -1,10 +1,9 @@
 -- The sampler's state: what a plan, a run and the number of points taken leave, and the test that a state is such a one. Definitions only.
 use mathlib.Core.List.{List, [], _∷_}
-use mathlib.Core.Bool.{Bool, true, false}
+use mathlib.Core.Bool.{Bool, true, false, cond}
 use Prim.Native.Nat.{ℕ, _+_, _-_, _*_, _/_, _%_, _^_}
 use lib.Dec.{ltb, leb, eqb}
 use lib.ListN.{getD, replicate}
-use Rattle.numbers.specs.Choice.{choose}
 use Rattle.numbers.specs.Listed.{listed, padded}
 use Rattle.plan.specs.Plan.{Plan, spell}
 use Rattle.plan.specs.Reading.{Reading, refused, accepted, readPlan}
@@ -21,7 +20,7 @@ both false b = false
 
 -- the point of the run's next index, and zeros where no point is left, 0 on the axes that the plan lacks
 unfoldable pub nextPoint : Plan → ℕ → ℕ → ℕ → List ℕ
-nextPoint p start count taken = choose (ltb taken count) (padded 6 (pointOf p (start + taken))) (replicate 6 0)
+nextPoint p start count taken = cond (ltb taken count) (padded 6 (pointOf p (start + taken))) (replicate 6 0)
 
 -- the state with this plan and run, so many of whose points are taken
 unfoldable pub made : Plan → ℕ → ℕ → ℕ → Sampler

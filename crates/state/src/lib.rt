@@ -1,11 +1,10 @@
 // The sampler's state: made of a plan and a run, and moved on.
 use plan::PlanRead;
 ghost use mathlib.Core.Path.{_≡_};
-ghost use mathlib.Core.Bool.{true};
+ghost use mathlib.Core.Bool.{true, cond};
 ghost use Prim.Native.Nat.{_+_, _*_, _^_, _<_, _≤_};
 ghost use lib.Dec.{ltb};
 ghost use lib.ListN.{length, replicate};
-ghost use Rattle.numbers.specs.Choice.{choose};
 ghost use Rattle.numbers.specs.Listed.{padded};
 ghost use Rattle.plan.specs.Plan.{Valid, sobol};
 ghost use Rattle.plan.specs.Answer.{axesOf, planAnswered, Accepted};
@@ -87,7 +86,7 @@ pub fn next_point(
     taken: u64,
 ) -> [u64; 6]
     requires { ⌜ Arrays family axes (now bases) (now directions) × (start + count ≤ 2 ^ 32) ⌝ }
-    ensures { λ r. ⌜ r ≡ choose (ltb taken count) (pointAt family axes (now (bases .entry)) (now (directions .entry)) (start + taken)) (replicate 6 0) ⌝ }
+    ensures { λ r. ⌜ r ≡ cond (ltb taken count) (pointAt family axes (now (bases .entry)) (now (directions .entry)) (start + taken)) (replicate 6 0) ⌝ }
 {
     if taken < count {
         return points::point(family, axes, bases, directions, start + taken);

@@ -1,11 +1,10 @@
 -- Which plans can be written, and what writing one leaves in a buffer. Definitions only.
 use mathlib.Core.Path.{_≡_}
-use mathlib.Core.Bool.{Bool, true, false}
+use mathlib.Core.Bool.{Bool, true, false, cond}
 use mathlib.Core.List.{List, _++_}
 use Prim.Native.Nat.{ℕ, _≤_, _<_}
 use lib.Dec.{ltb}
 use lib.ListN.{length, drop, getD}
-use Rattle.numbers.specs.Choice.{choose}
 use Rattle.binary.specs.Polynomial.{degreeOf}
 use Rattle.plan.specs.Plan.{Plan, spell}
 
@@ -27,11 +26,11 @@ noRoom p old = ltb (length old) (length (spell p))
 
 -- 13 (room), or 0
 abbrev pub writtenCode : Plan → List ℕ → ℕ
-writtenCode p old = choose (noRoom p old) 13 0
+writtenCode p old = cond (noRoom p old) 13 0
 
 -- the plan's length, 0 where it is refused
 abbrev pub writtenLength : Plan → List ℕ → ℕ
-writtenLength p old = choose (noRoom p old) 0 (length (spell p))
+writtenLength p old = cond (noRoom p old) 0 (length (spell p))
 
 -- the plan's bytes and then what lay behind them, or the buffer as it was
 unfoldable pub writtenIf : Bool → Plan → List ℕ → List ℕ

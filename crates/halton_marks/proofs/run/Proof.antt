@@ -1,11 +1,10 @@
 -- `halton_marks::run` meets its contract: the flags up to i are tested. Assumes nothing.
 use mathlib.Core.Path.{ap, _∙_}
-use mathlib.Core.Bool.{Bool}
+use mathlib.Core.Bool.{Bool, cond}
 use Prim.Native.Nat.{_-_, _≤_}
 use native.Mathlib.Omega.{arith}
 use lib.ListN.{getD}
 use Rattle.tables.specs.Tables.{shifted}
-use Rattle.numbers.specs.Choice.{choose}
 use Rattle.marks.specs.Marking.{Marked}
 use Rattle.marks.proofs.MarkLaws.{marked-none, marked-more, marked-to}
 use Rattle.halton_marks.proofs.LeftLaws.{left-test}
@@ -59,7 +58,7 @@ loop-again c =
       omega arith,
       omega arith,
       marked-more (l .inv .2) (c .keep .result) (omega arith) (omega arith)
-          (c .keep .ensures ∙ ap (λ (b : Bool). choose b (getD (l .l) (l .i) 0) 0) (left-test _ (a .base) (a .limit) _ (c .before .before .before .before .before .left .ensures))),
+          (c .keep .ensures ∙ ap (λ (b : Bool). cond b (getD (l .l) (l .i) 0) 0) (left-test _ (a .base) (a .limit) _ (c .before .before .before .before .before .left .ensures))),
     )
 
 same-length : tie.Need-same-length Inv-loop μ-loop

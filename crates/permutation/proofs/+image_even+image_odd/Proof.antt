@@ -6,7 +6,7 @@ use native.Mathlib.Omega.{arith}
 use borrow.Fn.Kinds.{In, Out}
 use borrow.Fn.PlainCycle.{Measures, is, falls, and}
 use Rattle.permutation.specs.Faure.{faure, closeGap}
-use Rattle.permutation.proofs.FaureRules.{choose-low, choose-high, faure-small, placeIn, halfOf, even-halves, place-below, odd-middle, odd-kept, odd-raised}
+use Rattle.permutation.proofs.FaureRules.{cond-low, cond-high, faure-small, placeIn, halfOf, even-halves, place-below, odd-middle, odd-kept, odd-raised}
 use Rattle.permutation.proofs.FaureLaws.{faure-below, close-below}
 use Rattle.permutation.proofs.image_even.Reads as image-even
 use Rattle.permutation.proofs.image_even.Kinds as image-even-kinds
@@ -51,7 +51,7 @@ odd-calls t = (image-even-below t, image-even.Post)
 place : (t : ℕ) (c : image-even-lts.Joined1 (even-calls t) (image-even-at t) image-even.Post) →
     let a = c .before .args in c .if1 .d ≡ placeIn (a .b / 2) (a .k)
 place t c =
-    ⊎-elim (λ w. w .1 ∙ sym (choose-low _ _ _ _ (w .0 .taken))) (λ w. w .1 ∙ sym (choose-high _ _ _ _ (w .0 .left))) (c .if1 .came)
+    ⊎-elim (λ w. w .1 ∙ sym (cond-low _ _ _ _ (w .0 .taken))) (λ w. w .1 ∙ sym (cond-high _ _ _ _ (w .0 .left))) (c .if1 .came)
 
 place-fits : (t : ℕ) (c : image-even-lts.Joined1 (even-calls t) (image-even-at t) image-even.Post) → c .if1 .d < c .before .args .b / 2
 place-fits t c =
@@ -61,7 +61,7 @@ place-fits t c =
 half : (t : ℕ) (c : image-even-lts.Joined2 (even-calls t) (image-even-at t) image-even.Post) →
     let a = c .before .before .args in c .if2 .upper ≡ halfOf (a .b / 2) (a .k)
 half t c =
-    ⊎-elim (λ w. w .1 ∙ sym (choose-low _ _ _ _ (w .0 .taken))) (λ w. w .1 ∙ sym (choose-high _ _ _ _ (w .0 .left))) (c .if2 .came)
+    ⊎-elim (λ w. w .1 ∙ sym (cond-low _ _ _ _ (w .0 .taken))) (λ w. w .1 ∙ sym (cond-high _ _ _ _ (w .0 .left))) (c .if2 .came)
 
 -- twice an image and a half: what the rule says, and below the base
 even-answer : (t : ℕ) (c : image-even-lts.Joined2 (even-calls t) (image-even-at t) image-even.Post) (r : ℕ)
@@ -129,7 +129,7 @@ odd-sub-image-even t c = omega arith
 closed : (t : ℕ) (c : image-odd-lts.Joined2 (odd-calls t) (image-odd-at t) image-odd.Post) →
     let a = c .before .before .args in c .if2 .d ≡ closeGap (a .b / 2) (a .k)
 closed t c =
-    ⊎-elim (λ w. w .1 ∙ sym (choose-low _ _ _ _ (w .0 .taken))) (λ w. w .1 ∙ sym (choose-high _ _ _ _ (w .0 .left))) (c .if2 .came)
+    ⊎-elim (λ w. w .1 ∙ sym (cond-low _ _ _ _ (w .0 .taken))) (λ w. w .1 ∙ sym (cond-high _ _ _ _ (w .0 .left))) (c .if2 .came)
 
 odd-image-even-requires : (t : ℕ) → image-odd-lts.Need-image-even-requires (odd-calls t) (image-odd-at t) image-odd.Post
 odd-image-even-requires t c κs =
