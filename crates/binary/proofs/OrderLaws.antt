@@ -14,7 +14,8 @@ use borrow.Author.Tests.{ltb-true, eqb-true, eq-eqb}
 use Rattle.binary.specs.Polynomial.{Degree, timesX, isPrimitive}
 use Rattle.binary.specs.Power.{powerOfX, Quotients}
 use Rattle.numbers.proofs.Cases.{lt-or-ge}
-use Rattle.numbers.proofs.EachLaws.{each, each-at}
+use Rattle.numbers.specs.Count.{each}
+use Rattle.numbers.proofs.EachLaws.{each-at}
 use Rattle.binary.proofs.PolynomialLaws.{divides-of-one, one-of-divides, is-primitive-iff}
 
 -- ---- the order of x

@@ -1,60 +1,61 @@
 -- Each number from the tests that lead to it. Assumes nothing.
-use mathlib.Core.Path.{_≡_, refl, _∙_}
-use mathlib.Core.Logic.{⊎-elim}
-use Prim.Native.Nat.{ℕ, _+_, _*_, _^_, _<_, _≤_}
-use native.Mathlib.Omega.{arith}
-use borrow.Author.Tests.{lt-ltb, le-ltb, le-leb, lt-leb, eq-eqb, ne-eqb}
-use Rattle.numbers.proofs.Cases.{lt-or-ge, eq-or-ne}
-use Rattle.c_refusals.specs.Refusals.{pointRefusal, countRefusal}
+use mathlib.Core.Path.{_≡_, refl}
+use mathlib.Core.Bool.{Bool, true, false, not}
+use mathlib.Core.List.{[]}
+use Prim.Native.Nat.{ℕ, _*_, _^_, _<_, _≤_}
+use lib.Dec.{ltb, leb}
+use borrow.Author.Tests.{lt-ltb, le-ltb, le-leb, lt-leb, leb-false, ltb-false, not-false}
+use Rattle.plan.specs.Order.{firstDue}
+use Rattle.plan.proofs.OrderLaws.{none-due}
+use Rattle.points.specs.Run.{Run, inRange}
+use Rattle.c_refusals.specs.Refusals.{pointRefusals, countRefusals}
 
 -- ---- when a point is turned down
 
 module _ (index s room : ℕ) where
-  pub point-out : 2 ^ 32 ≤ index → 11 ≡ pointRefusal index s room
-  unfolding pointRefusal
+  pub point-out : 2 ^ 32 ≤ index → 11 ≡ firstDue (pointRefusals index s room)
+  unfolding firstDue
   point-out h = rw (le-leb (2 ^ 32) index h) refl
 
   module _ (h : index < 2 ^ 32) where
-    pub point-no-room : room < 8 * s → 13 ≡ pointRefusal index s room
-    unfolding pointRefusal
+    pub point-no-room : room < 8 * s → 13 ≡ firstDue (pointRefusals index s room)
+    unfolding firstDue
     point-no-room r = rw (lt-leb (2 ^ 32) index h, lt-ltb room (8 * s) r) refl
 
-    pub point-none : 8 * s ≤ room → 0 ≡ pointRefusal index s room
-    unfolding pointRefusal
+    pub point-none : 8 * s ≤ room → 0 ≡ firstDue (pointRefusals index s room)
+    unfolding firstDue
     point-none r = rw (lt-leb (2 ^ 32) index h, le-ltb room (8 * s) r) refl
 
   -- it is not: each test passes
-  pub point-zero : pointRefusal index s room ≡ 0 → (index < 2 ^ 32) × (8 * s ≤ room)
-  point-zero z = ⊎-elim (λ h. (h, long h)) (λ h. absurd (omega (arith, point-out h))) (lt-or-ge index (2 ^ 32))
-    where
-      long : index < 2 ^ 32 → 8 * s ≤ room
-      long h = ⊎-elim (λ r. absurd (omega (arith, point-no-room h r))) (λ r. r) (lt-or-ge room (8 * s))
+  pub point-zero : firstDue (pointRefusals index s room) ≡ 0 → (index < 2 ^ 32) × (8 * s ≤ room)
+  point-zero z =
+      let a = none-due 10 (leb (2 ^ 32) index) _ z in
+      (leb-false (2 ^ 32) index (a .0), ltb-false room (8 * s) (none-due 12 (ltb room (8 * s)) [] (a .1) .0))
 
 -- ---- when a count is turned down
 
-module _ (start N w room : ℕ) where
-  pub refusal-out : 2 ^ 32 < start + N → 11 ≡ countRefusal start N w room
-  unfolding countRefusal
-  refusal-out h = rw (lt-ltb (2 ^ 32) (start + N) h) refl
+module _ (r : Run) (w : Bool) (room : ℕ) where
+  pub count-out : inRange r ≡ false → 11 ≡ firstDue (countRefusals r w room)
+  unfolding firstDue
+  count-out h = rw h refl
 
-  module _ (h : start + N ≤ 2 ^ 32) where
-    pub refusal-off : (w ≡ 0 → ⊥) → w ≡ countRefusal start N w room
-    unfolding countRefusal
-    refusal-off f = rw (le-ltb (2 ^ 32) (start + N) h, ne-eqb w 0 f) refl
+  module _ (h : inRange r ≡ true) where
+    pub count-off : w ≡ false → 14 ≡ firstDue (countRefusals r w room)
+    unfolding firstDue
+    count-off f = rw (h, f) refl
 
-    module _ (t : w ≡ 0) where
-      pub refusal-room : room < 16 → 13 ≡ countRefusal start N w room
-      unfolding countRefusal
-      refusal-room r = rw (le-ltb (2 ^ 32) (start + N) h, eq-eqb w 0 t, lt-ltb room 16 r) refl
+    module _ (t : w ≡ true) where
+      pub count-no-room : room < 16 → 13 ≡ firstDue (countRefusals r w room)
+      unfolding firstDue
+      count-no-room l = rw (h, t, lt-ltb room 16 l) refl
 
-      pub refusal-none : 16 ≤ room → 0 ≡ countRefusal start N w room
-      unfolding countRefusal
-      refusal-none r = rw (le-ltb (2 ^ 32) (start + N) h, eq-eqb w 0 t, le-ltb room 16 r) refl
+      pub count-none : 16 ≤ room → 0 ≡ firstDue (countRefusals r w room)
+      unfolding firstDue
+      count-none l = rw (h, t, le-ltb room 16 l) refl
 
   -- it is not: each test passes
-  pub refusal-zero : countRefusal start N w room ≡ 0 → (start + N ≤ 2 ^ 32) × (w ≡ 0) × (16 ≤ room)
-  refusal-zero z =
-      ⊎-elim (λ h. absurd (omega (arith, refusal-out h))) (λ h. ⊎-elim (λ t. (h, t, long h t)) (λ f. absurd (f (refusal-off h f ∙ z))) (eq-or-ne w 0)) (lt-or-ge (2 ^ 32) (start + N))
-    where
-      long : start + N ≤ 2 ^ 32 → w ≡ 0 → 16 ≤ room
-      long h t = ⊎-elim (λ r. absurd (omega (arith, refusal-room h t r))) (λ r. r) (lt-or-ge room 16)
+  pub count-zero : firstDue (countRefusals r w room) ≡ 0 → (inRange r ≡ true) × (w ≡ true) × (16 ≤ room)
+  count-zero z =
+      let a = none-due 10 (not (inRange r)) _ z in
+      let b = none-due 13 (not w) _ (a .1) in
+      (not-false (inRange r) (a .0), not-false w (b .0), ltb-false room 16 (none-due 12 (ltb room 16) [] (b .1) .0))

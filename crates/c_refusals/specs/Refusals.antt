@@ -1,12 +1,15 @@
--- The number by which a C call on an accepted plan is turned down, or 0 (01-scope.md, "When a call is turned down"). Definitions only.
-use mathlib.Core.Bool.{cond}
-use Prim.Native.Nat.{ℕ, _+_, _*_, _^_}
-use lib.Dec.{ltb, leb, eqb}
+-- When a C call on an accepted plan is turned down, in the order of 01-scope.md, "When a call is turned down". Definitions only.
+use mathlib.Core.Bool.{Bool, not}
+use mathlib.Core.List.{List, [], _∷_}
+use Prim.Native.Nat.{ℕ, _*_, _^_}
+use lib.Dec.{ltb, leb}
+use Rattle.plan.specs.Order.{Condition, _when_}
+use Rattle.points.specs.Run.{Run, inRange}
 
--- point: of an index, and the room for so many axes
-unfoldable pub pointRefusal : ℕ → ℕ → ℕ → ℕ
-pointRefusal index s room = cond (leb (2 ^ 32) index) 11 (cond (ltb room (8 * s)) 13 0)
+-- point: 11 (range) by the index, 13 (room) for so many axes
+abbrev pub pointRefusals : ℕ → ℕ → ℕ → List Condition
+pointRefusals index s room = 11 when leb (2 ^ 32) index ∷ 13 when ltb room (8 * s) ∷ []
 
--- window count: of a run, the window's own refusal, and the room
-unfoldable pub countRefusal : ℕ → ℕ → ℕ → ℕ → ℕ
-countRefusal start count window room = cond (ltb (2 ^ 32) (start + count)) 11 (cond (eqb window 0) (cond (ltb room 16) 13 0) window)
+-- window count: 11 (range) by the run, 14 (window) where the bytes are none, 13 (room) for S and the bound
+abbrev pub countRefusals : Run → Bool → ℕ → List Condition
+countRefusals r window room = 11 when not (inRange r) ∷ 14 when not window ∷ 13 when ltb room 16 ∷ []

@@ -2,21 +2,23 @@
 use mathlib.Core.Path.{_≡_, refl, sym, ap, _∙_}
 use mathlib.Core.Bool.{Bool, true, false, not}
 use mathlib.Core.List.{List, _++_}
-use Prim.Native.Nat.{ℕ, _+_, _*_, _^_, _≤_, _<_}
+use Prim.Native.Nat.{ℕ, suc, _+_, _*_, _^_, _≤_, _<_}
 use lib.ListN.{length, drop}
 use borrow.Author.Tests.{lt-ltb, le-ltb, le-leb, lt-leb, not-true, not-false}
 use Rattle.bits.specs.Stream.{AllBelow}
-use Rattle.plan.specs.Plan.{halton, sobol}
+use Rattle.plan.specs.Plan.{halton, sobol, spell}
 use Rattle.plan.specs.Reading.{Reading, refused, accepted, readPlan}
 use Rattle.plan.specs.Answer.{answerOf, planAnswered, Accepted}
 use Rattle.plan.specs.declared.PlanRead.{PlanRead}
 use Rattle.plan.proofs.AnswerLaws.{read-accepted}
-use Rattle.points.specs.Point.{pointOf, pointsFrom, slotOf}
-use Rattle.writer.specs.Parts.{Written}
+use Rattle.plan.specs.Order.{firstDue, unlessDue}
+use Rattle.points.specs.Point.{pointOf, slotOf}
+use Rattle.points.specs.Run.{Run, runOf, inRange, runPoint, runPoints}
+use Rattle.writer.specs.Parts.{noRoom, writtenIf, Written}
 use Rattle.writer.specs.declared.PlanWritten.{PlanWritten}
-use Rattle.state.specs.State.{made, blank, planIn, genuine}
+use Rattle.state.specs.State.{made, blank, planIn, runIn, genuine}
 use Rattle.state.specs.declared.Sampler.{Sampler}
-use Rattle.calls.specs.Calls.{moved, blocked, readState, readSpec, writeSpec, writeBuf, openSpec, jumpSpec, jumpBuf, stepSpec, stepBuf, blockSize, blockSpec, blockBuf, secondSpec}
+use Rattle.calls.specs.Calls.{moved, blocked, readState, readSpec, writeRefusals, writeSpec, writeBuf, openRefusals, openSpec, jumpRefusals, jumpSpec, jumpBuf, runRefusals, stepSpec, stepBuf, blockSize, blockSpec, blockBuf, secondRefusals, secondSpec}
 
 -- ---- the test that every call makes first, negated in the code
 
@@ -38,7 +40,7 @@ module _ (bytes : List ℕ) (a : PlanRead) (e : a ≡ answerOf (readPlan bytes))
       go (accepted (halton family bases)) h = absurd (f (ap (λ (x : PlanRead). x .code) (e ∙ ap answerOf h)))
       go (accepted (sobol axes)) h = absurd (f (ap (λ (x : PlanRead). x .code) (e ∙ ap answerOf h)))
 
-  pub read-done : a .code ≡ 0 → AllBelow 256 bytes → (readSpec bytes ≡ moved 0 (made (planAnswered a) 0 0 0)) × Accepted a
+  pub read-done : a .code ≡ 0 → AllBelow 256 bytes → (readSpec bytes ≡ moved 0 (made (planAnswered a) (runOf 0 0) 0)) × Accepted a
   unfolding readSpec readState
   read-done z below =
       let w = read-accepted bytes below a e z in
@@ -48,109 +50,131 @@ module _ (bytes : List ℕ) (a : PlanRead) (e : a ≡ answerOf (readPlan bytes))
 
 module _ (s : Sampler) (buf : List ℕ) where
   pub write-foreign : genuine s ≡ false → (writeSpec s buf ≡ record { code = 15; len = 0 }) × (writeBuf s buf ≡ buf)
-  unfolding writeSpec writeBuf
+  unfolding writeSpec writeBuf firstDue unlessDue
   write-foreign g = (rw g refl, rw g refl)
 
-  pub write-done : genuine s ≡ true → (r : PlanWritten) (new : List ℕ) → Written (planIn s) buf new (r .code) (r .len)
-      → (r ≡ writeSpec s buf) × (new ≡ writeBuf s buf)
-  unfolding writeSpec writeBuf
-  write-done g r new w = (rw g (λ j. record { code = w .answer j; len = w .reported j }), rw g (w .bytes))
+  module _ (g : genuine s ≡ true) where
+    pub write-no-room : length buf < length (spell (planIn s)) → (writeSpec s buf ≡ record { code = 13; len = 0 }) × (writeBuf s buf ≡ buf)
+    unfolding writeSpec writeBuf firstDue unlessDue
+    write-no-room h = let r = lt-ltb (length buf) (length (spell (planIn s))) h in (rw (g, r) refl, rw (g, r) refl)
+
+    pub write-done : length (spell (planIn s)) ≤ length buf
+        → (writeSpec s buf ≡ record { code = 0; len = length (spell (planIn s)) }) × (writeBuf s buf ≡ spell (planIn s) ++ drop (length (spell (planIn s))) buf)
+    unfolding writeSpec writeBuf firstDue unlessDue
+    write-done h = let r = le-ltb (length buf) (length (spell (planIn s))) h in (rw (g, r) refl, rw (g, r) refl)
+
+    -- what the writer of plans answers
+    pub write-as-written : (r : PlanWritten) (new : List ℕ) → Written (planIn s) buf new (r .code) (r .len) → (r ≡ writeSpec s buf) × (new ≡ writeBuf s buf)
+    unfolding writeSpec writeBuf firstDue unlessDue writtenIf
+    write-as-written r new w = go (noRoom (planIn s) buf) refl
+      where
+        go : (b : Bool) → noRoom (planIn s) buf ≡ b → (r ≡ writeSpec s buf) × (new ≡ writeBuf s buf)
+        go true e =
+            let code : r .code ≡ 13 = w .answer ∙ rw e refl in
+            let len : r .len ≡ 0 = w .reported ∙ rw e refl in
+            let bytes : new ≡ buf = w .bytes ∙ rw e refl in
+            rw (g, e) (λ j. record { code = code j; len = len j }, bytes)
+        go false e =
+            let code : r .code ≡ 0 = w .answer ∙ rw e refl in
+            let len : r .len ≡ length (spell (planIn s)) = w .reported ∙ rw e refl in
+            let bytes : new ≡ spell (planIn s) ++ drop (length (spell (planIn s))) buf = w .bytes ∙ rw e refl in
+            rw (g, e) (λ j. record { code = code j; len = len j }, bytes)
 
 -- ---- open
 
-module _ (s : Sampler) (start count : ℕ) where
-  pub open-foreign : genuine s ≡ false → openSpec s start count ≡ moved 15 s
-  unfolding openSpec
+module _ (s : Sampler) (r : Run) where
+  pub open-foreign : genuine s ≡ false → openSpec s r ≡ moved 15 s
+  unfolding openSpec firstDue unlessDue
   open-foreign g = rw g refl
 
   module _ (g : genuine s ≡ true) where
-    pub open-out : 2 ^ 32 < start + count → openSpec s start count ≡ moved 11 s
-    unfolding openSpec
-    open-out h = rw (g, lt-leb (start + count) (2 ^ 32) h) refl
+    pub open-out : inRange r ≡ false → openSpec s r ≡ moved 11 s
+    unfolding openSpec firstDue unlessDue
+    open-out h = rw (g, h) refl
 
-    pub open-done : start + count ≤ 2 ^ 32 → openSpec s start count ≡ moved 0 (made (planIn s) start count 0)
-    unfolding openSpec
-    open-done h = rw (g, le-leb (start + count) (2 ^ 32) h) refl
+    pub open-done : inRange r ≡ true → openSpec s r ≡ moved 0 (made (planIn s) r 0)
+    unfolding openSpec firstDue unlessDue
+    open-done h = rw (g, h) refl
 
 -- ---- jump
 
 module _ (s : Sampler) (n : ℕ) (buf : List ℕ) where
   pub jump-foreign : genuine s ≡ false → (jumpSpec s n buf ≡ record { code = 15 }) × (jumpBuf s n buf ≡ buf)
-  unfolding jumpSpec jumpBuf
+  unfolding jumpSpec jumpBuf firstDue unlessDue
   jump-foreign g = (rw g refl, rw g refl)
 
   module _ (g : genuine s ≡ true) where
     pub jump-out : 2 ^ 32 ≤ n → (jumpSpec s n buf ≡ record { code = 11 }) × (jumpBuf s n buf ≡ buf)
-    unfolding jumpSpec jumpBuf
-    jump-out h = (rw (g, le-ltb n (2 ^ 32) h) refl, rw (g, le-ltb n (2 ^ 32) h) refl)
+    unfolding jumpSpec jumpBuf firstDue unlessDue
+    jump-out h = let l = le-leb (2 ^ 32) n h in (rw (g, l) refl, rw (g, l) refl)
 
     pub jump-no-room : n < 2 ^ 32 → length buf < s .axes → (jumpSpec s n buf ≡ record { code = 13 }) × (jumpBuf s n buf ≡ buf)
-    unfolding jumpSpec jumpBuf
-    jump-no-room h r =
-        (rw (g, lt-ltb n (2 ^ 32) h, lt-leb (s .axes) (length buf) r) refl, rw (g, lt-ltb n (2 ^ 32) h, lt-leb (s .axes) (length buf) r) refl)
+    unfolding jumpSpec jumpBuf firstDue unlessDue
+    jump-no-room h k =
+        let l = lt-leb (2 ^ 32) n h in
+        let r = lt-ltb (length buf) (s .axes) k in (rw (g, l, r) refl, rw (g, l, r) refl)
 
     pub jump-done : n < 2 ^ 32 → s .axes ≤ length buf
         → (jumpSpec s n buf ≡ record { code = 0 }) × (jumpBuf s n buf ≡ pointOf (planIn s) n ++ drop (s .axes) buf)
-    unfolding jumpSpec jumpBuf
-    jump-done h r =
-        (rw (g, lt-ltb n (2 ^ 32) h, le-leb (s .axes) (length buf) r) refl, rw (g, lt-ltb n (2 ^ 32) h, le-leb (s .axes) (length buf) r) refl)
+    unfolding jumpSpec jumpBuf firstDue unlessDue
+    jump-done h k =
+        let l = lt-leb (2 ^ 32) n h in
+        let r = le-ltb (length buf) (s .axes) k in (rw (g, l, r) refl, rw (g, l, r) refl)
 
 -- ---- step and block
 
 module _ (s : Sampler) (buf : List ℕ) where
-  pub step-foreign : genuine s ≡ false → (stepSpec s buf ≡ moved 15 s) × (stepBuf s buf ≡ buf)
-  unfolding stepSpec stepBuf
-  step-foreign g = (rw g refl, rw g refl)
-
-  pub block-foreign : genuine s ≡ false → (blockSpec s buf ≡ blocked 15 0 s) × (blockBuf s buf ≡ buf)
-  unfolding blockSpec blockBuf
-  block-foreign g = (rw g refl, rw g refl)
+  -- their order
+  pub run-foreign : genuine s ≡ false → firstDue (runRefusals s buf) ≡ 15
+  unfolding firstDue
+  run-foreign g = rw g refl
 
   module _ (g : genuine s ≡ true) where
-    pub step-spent : s .count ≤ s .taken → (stepSpec s buf ≡ moved 12 s) × (stepBuf s buf ≡ buf)
-    unfolding stepSpec stepBuf
-    step-spent h = (rw (g, le-ltb (s .taken) (s .count) h) refl, rw (g, le-ltb (s .taken) (s .count) h) refl)
-
-    pub block-spent : s .count ≤ s .taken → (blockSpec s buf ≡ blocked 12 0 s) × (blockBuf s buf ≡ buf)
-    unfolding blockSpec blockBuf
-    block-spent h = (rw (g, le-ltb (s .taken) (s .count) h) refl, rw (g, le-ltb (s .taken) (s .count) h) refl)
+    pub run-spent : s .count ≤ s .taken → firstDue (runRefusals s buf) ≡ 12
+    unfolding firstDue
+    run-spent h = rw (g, le-leb (s .count) (s .taken) h) refl
 
     module _ (h : s .taken < s .count) where
-      pub step-no-room : length buf < s .axes → (stepSpec s buf ≡ moved 13 s) × (stepBuf s buf ≡ buf)
-      unfolding stepSpec stepBuf
-      step-no-room r =
-          (rw (g, lt-ltb (s .taken) (s .count) h, lt-leb (s .axes) (length buf) r) refl, rw (g, lt-ltb (s .taken) (s .count) h, lt-leb (s .axes) (length buf) r) refl)
+      pub run-no-room : length buf < s .axes → firstDue (runRefusals s buf) ≡ 13
+      unfolding firstDue
+      run-no-room r = rw (g, lt-leb (s .count) (s .taken) h, lt-ltb (length buf) (s .axes) r) refl
 
-      pub block-no-room : length buf < s .axes → (blockSpec s buf ≡ blocked 13 0 s) × (blockBuf s buf ≡ buf)
-      unfolding blockSpec blockBuf
-      block-no-room r =
-          (rw (g, lt-ltb (s .taken) (s .count) h, lt-leb (s .axes) (length buf) r) refl, rw (g, lt-ltb (s .taken) (s .count) h, lt-leb (s .axes) (length buf) r) refl)
+      pub run-clear : s .axes ≤ length buf → firstDue (runRefusals s buf) ≡ 0
+      unfolding firstDue
+      run-clear r = rw (g, lt-leb (s .count) (s .taken) h, le-ltb (length buf) (s .axes) r) refl
 
-      module _ (r : s .axes ≤ length buf) where
-        pub step-done : (stepSpec s buf ≡ moved 0 (made (planIn s) (s .start) (s .count) (s .taken + 1)))
-            × (stepBuf s buf ≡ pointOf (planIn s) (s .start + s .taken) ++ drop (s .axes) buf)
-        unfolding stepSpec stepBuf
-        step-done =
-            (rw (g, lt-ltb (s .taken) (s .count) h, le-leb (s .axes) (length buf) r) refl, rw (g, lt-ltb (s .taken) (s .count) h, le-leb (s .axes) (length buf) r) refl)
+  module _ (n : ℕ) (e : firstDue (runRefusals s buf) ≡ suc n) where
+    pub step-refused : (stepSpec s buf ≡ moved (suc n) s) × (stepBuf s buf ≡ buf)
+    unfolding stepSpec stepBuf unlessDue
+    step-refused = (rw e refl, rw e refl)
 
-        pub block-done : (blockSpec s buf ≡ blocked 0 (blockSize s buf) (made (planIn s) (s .start) (s .count) (s .taken + blockSize s buf)))
-            × (blockBuf s buf ≡ pointsFrom (planIn s) (s .start + s .taken) (blockSize s buf) ++ drop (blockSize s buf * s .axes) buf)
-        unfolding blockSpec blockBuf
-        block-done =
-            (rw (g, lt-ltb (s .taken) (s .count) h, le-leb (s .axes) (length buf) r) refl, rw (g, lt-ltb (s .taken) (s .count) h, le-leb (s .axes) (length buf) r) refl)
+    pub block-refused : (blockSpec s buf ≡ blocked (suc n) 0 s) × (blockBuf s buf ≡ buf)
+    unfolding blockSpec blockBuf unlessDue
+    block-refused = (rw e refl, rw e refl)
+
+  module _ (e : firstDue (runRefusals s buf) ≡ 0) where
+    pub step-done : (stepSpec s buf ≡ moved 0 (made (planIn s) (runIn s) (s .taken + 1)))
+        × (stepBuf s buf ≡ runPoint (planIn s) (runIn s) (s .taken) ++ drop (s .axes) buf)
+    unfolding stepSpec stepBuf unlessDue
+    step-done = (rw e refl, rw e refl)
+
+    pub block-done : (blockSpec s buf ≡ blocked 0 (blockSize s buf) (made (planIn s) (runIn s) (s .taken + blockSize s buf)))
+        × (blockBuf s buf ≡ runPoints (planIn s) (runIn s) (s .taken) (blockSize s buf) ++ drop (blockSize s buf * s .axes) buf)
+    unfolding blockSpec blockBuf unlessDue
+    block-done = (rw e refl, rw e refl)
 
 -- ---- second
 
 module _ (s : Sampler) (n : ℕ) where
   pub second-foreign : genuine s ≡ false → secondSpec s n ≡ record { code = 15; second = 0 }
-  unfolding secondSpec
+  unfolding secondSpec firstDue unlessDue
   second-foreign g = rw g refl
 
   module _ (g : genuine s ≡ true) where
     pub second-out : 2 ^ 32 ≤ n → secondSpec s n ≡ record { code = 11; second = 0 }
-    unfolding secondSpec
-    second-out h = rw (g, le-ltb n (2 ^ 32) h) refl
+    unfolding secondSpec firstDue unlessDue
+    second-out h = rw (g, le-leb (2 ^ 32) n h) refl
 
     pub second-done : n < 2 ^ 32 → secondSpec s n ≡ record { code = 0; second = slotOf (planIn s) 86400 n 0 }
-    unfolding secondSpec
-    second-done h = rw (g, lt-ltb n (2 ^ 32) h) refl
+    unfolding secondSpec firstDue unlessDue
+    second-done h = rw (g, lt-leb (2 ^ 32) n h) refl

@@ -2,3 +2,6 @@
 pub mod CaseLaws
 pub mod PointLaws
 pub mod RunLaws
+pub mod HistoryLaws
+pub mod ServingLaws
+pub mod RoundTrip

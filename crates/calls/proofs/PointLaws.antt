@@ -8,14 +8,16 @@ use native.Mathlib.Omega.{arith}
 use lib.ListN.{take, drop}
 use Rattle.numbers.proofs.ListedLaws.{padded-take}
 use Rattle.plan.specs.Plan.{Plan, Valid}
-use Rattle.points.specs.Point.{axisCount, numeratorOf, denominatorOf, pointOf, pointsFrom}
+use Rattle.points.specs.Point.{axisCount, numeratorOf, denominatorOf, pointOf}
+use Rattle.points.specs.Run.{inRange, runPoint, runPoints}
+use Rattle.points.proofs.RunLaws.{run-point}
 use Rattle.points.specs.Arrays.{numeratorAt, denominatorAt, pointAt, pointsAt, Arrays}
 use Rattle.points.proofs.PointLaws.{axis-count, denominator-of-lt, numerator-of-lt, point-of-length}
 use Rattle.points.proofs.ArrayLaws.{numerator-at-plan, denominator-at-plan}
-use Rattle.state.specs.State.{planIn, genuine}
+use Rattle.state.specs.State.{planIn, runIn, genuine}
 use Rattle.state.specs.declared.Sampler.{Sampler}
-use Rattle.state.proofs.GenuineLaws.{Genuine, genuine-is}
-use Rattle.state.proofs.StateLaws.{Holds, genuine-holds, genuine-arrays, genuine-point, genuine-points, genuine-current}
+use Rattle.state.proofs.GenuineLaws.{Genuine, genuine-is, genuine-range}
+use Rattle.state.proofs.StateLaws.{Holds, genuine-holds, genuine-arrays, genuine-point, genuine-steps, genuine-current}
 
 module _ {p : Plan} {family axes : ℕ} {bases vs : List ℕ} (h : Holds p family axes bases vs) (v : Valid p) where
   holds-numerator : (n i : ℕ) → i < axes → numeratorAt family bases vs n i ≡ numeratorOf p n i
@@ -40,21 +42,28 @@ module _ (s : Sampler) (g : genuine s ≡ true) where
   point-front n =
       ap (take (s .axes)) (genuine-point is n) ∙ padded-take 6 (pointOf (planIn s) n) (s .axes) (point-of-length (planIn s) n ∙ sym axes-are)
 
-  -- a point put at the front of a buffer
+  -- a point put at the front of a buffer: of any index, and the one of the run's step t
   pub point-put : (buf new x : List ℕ) (n : ℕ) → x ≡ pointAt (s .family) (s .axes) (s .bases) (s .directions) n
       → new ≡ take 0 buf ++ take (s .axes) x ++ drop (0 + s .axes) buf → new ≡ pointOf (planIn s) n ++ drop (s .axes) buf
   point-put buf new x n e put = let z : 0 + s .axes ≡ s .axes = omega arith in put ∙ rw (e, point-front n, z) refl
 
-  -- points put one after another
-  pub points-put : (buf new : List ℕ) (n k : ℕ) → new ≡ pointsAt (s .family) (s .axes) (s .bases) (s .directions) n k ++ drop (k * s .axes) buf
-      → new ≡ pointsFrom (planIn s) n k ++ drop (k * s .axes) buf
-  points-put buf new n k put = put ∙ rw (genuine-points is n k) refl
+  pub step-put : (buf new x : List ℕ) (t : ℕ) → x ≡ pointAt (s .family) (s .axes) (s .bases) (s .directions) (s .start + t)
+      → new ≡ take 0 buf ++ take (s .axes) x ++ drop (0 + s .axes) buf → new ≡ runPoint (planIn s) (runIn s) t ++ drop (s .axes) buf
+  step-put buf new x t e put = point-put buf new x (s .start + t) e put ∙ rw (run-point (planIn s) (runIn s) t) refl
+
+  -- points put one after another, from step t on
+  pub points-put : (buf new : List ℕ) (t k : ℕ) → new ≡ pointsAt (s .family) (s .axes) (s .bases) (s .directions) (s .start + t) k ++ drop (k * s .axes) buf
+      → new ≡ runPoints (planIn s) (runIn s) t k ++ drop (k * s .axes) buf
+  points-put buf new t k put = put ∙ rw (genuine-steps is t k) refl
 
   pub known-arrays : Arrays (s .family) (s .axes) (s .bases) (s .directions)
   known-arrays = genuine-arrays is
 
+  pub known-range : inRange (runIn s) ≡ true
+  known-range = is .run .in-range
+
   pub known-run : (s .start + s .count ≤ 2 ^ 32) × (s .taken ≤ s .count)
-  known-run = (is .run .in-range, is .run .not-past)
+  known-run = (genuine-range is, is .run .not-past)
 
   pub known-next : s .taken < s .count → s .numerators ≡ pointAt (s .family) (s .axes) (s .bases) (s .directions) (s .start + s .taken)
   known-next h = genuine-current is h

@@ -1,15 +1,18 @@
 -- What each call answers, for all inputs, and what each lent word then holds (01-scope.md, "Runs and windows" and "When a call is turned
--- down"). A refusal answers its number and zero for every other number, the state as given, and changes no lent word. Definitions only.
-use mathlib.Core.Bool.{cond}
-use mathlib.Core.List.{List, _++_}
+-- down"). A call's refusals stand in the paper's order. A refusal answers its number and zero for every other number, the state as given, and
+-- changes no lent word. Definitions only.
+use mathlib.Core.Bool.{Bool, not}
+use mathlib.Core.List.{List, [], _∷_, _++_}
 use Prim.Native.Nat.{ℕ, _+_, _-_, _*_, _/_, _^_, min}
-use lib.Dec.{ltb, leb, eqb}
+use lib.Dec.{ltb, leb}
 use lib.ListN.{length, drop}
+use Rattle.plan.specs.Plan.{spell}
 use Rattle.plan.specs.Reading.{Reading, refused, accepted, readPlan}
-use Rattle.points.specs.Point.{pointOf, pointsFrom, slotOf}
-use Rattle.writer.specs.Parts.{writtenCode, writtenLength, written}
+use Rattle.plan.specs.Order.{Condition, _when_, firstDue, unlessDue}
+use Rattle.points.specs.Point.{pointOf, slotOf}
+use Rattle.points.specs.Run.{Run, runOf, inRange, runPoint, runPoints}
 use Rattle.writer.specs.declared.PlanWritten.{PlanWritten}
-use Rattle.state.specs.State.{made, blank, planIn, genuine}
+use Rattle.state.specs.State.{made, blank, planIn, runIn, genuine}
 use Rattle.state.specs.declared.Sampler.{Sampler}
 use Rattle.calls.specs.declared.Moved.{Moved}
 use Rattle.calls.specs.declared.Jumped.{Jumped}
@@ -22,55 +25,83 @@ moved n s = record { code = n; state = s }
 abbrev pub blocked : ℕ → ℕ → Sampler → Blocked
 blocked n k s = record { code = n; points = k; state = s }
 
+-- ---- the conditions
+
+-- 15, foreign: no accepted calls leave the state
+abbrev pub foreign : Sampler → Bool
+foreign s = not (genuine s)
+
+-- 11, range: an index at or above 2^32
+abbrev pub beyond : ℕ → Bool
+beyond n = leb (2 ^ 32) n
+
+-- 12, spent: no point is left
+abbrev pub spent : Sampler → Bool
+spent s = leb (s .count) (s .taken)
+
+-- 13, room: the buffer is shorter than one point, or than the plan
+abbrev pub noPointRoom : Sampler → List ℕ → Bool
+noPointRoom s buf = ltb (length buf) (s .axes)
+
+abbrev pub noPlanRoom : Sampler → List ℕ → Bool
+noPlanRoom s buf = ltb (length buf) (length (spell (planIn s)))
+
 -- ---- read: the numbers 1 to 10
 
 unfoldable pub readState : Reading → Moved
 readState (refused n) = moved n blank
-readState (accepted p) = moved 0 (made p 0 0 0)
+readState (accepted p) = moved 0 (made p (runOf 0 0) 0)
 
 unfoldable pub readSpec : List ℕ → Moved
 readSpec bytes = readState (readPlan bytes)
 
--- ---- write: 15, 13
+-- ---- write
 
+abbrev pub writeRefusals : Sampler → List ℕ → List Condition
+writeRefusals s buf = 15 when foreign s ∷ 13 when noPlanRoom s buf ∷ []
+
+-- the plan's length
 unfoldable pub writeSpec : Sampler → List ℕ → PlanWritten
-writeSpec s buf =
-    cond (genuine s) (record { code = writtenCode (planIn s) buf; len = writtenLength (planIn s) buf }) (record { code = 15; len = 0 })
+writeSpec s buf = record {
+  code = firstDue (writeRefusals s buf);
+  len = unlessDue (writeRefusals s buf) (length (spell (planIn s))) 0;
+}
 
+-- the plan's bytes, and then what lay behind them
 unfoldable pub writeBuf : Sampler → List ℕ → List ℕ
-writeBuf s buf = cond (genuine s) (written (planIn s) buf) buf
+writeBuf s buf = unlessDue (writeRefusals s buf) (spell (planIn s) ++ drop (length (spell (planIn s))) buf) buf
 
--- ---- open: 15, 11
+-- ---- open
 
-unfoldable pub openSpec : Sampler → ℕ → ℕ → Moved
-openSpec s start count =
-    cond (genuine s) (cond (leb (start + count) (2 ^ 32)) (moved 0 (made (planIn s) start count 0)) (moved 11 s)) (moved 15 s)
+abbrev pub openRefusals : Sampler → Run → List Condition
+openRefusals s r = 15 when foreign s ∷ 11 when not (inRange r) ∷ []
 
--- ---- jump: 15, 11, 13
+unfoldable pub openSpec : Sampler → Run → Moved
+openSpec s r = moved (firstDue (openRefusals s r)) (unlessDue (openRefusals s r) (made (planIn s) r 0) s)
+
+-- ---- jump
+
+abbrev pub jumpRefusals : Sampler → ℕ → List ℕ → List Condition
+jumpRefusals s n buf = 15 when foreign s ∷ 11 when beyond n ∷ 13 when noPointRoom s buf ∷ []
 
 unfoldable pub jumpSpec : Sampler → ℕ → List ℕ → Jumped
-jumpSpec s n buf =
-    cond (genuine s)
-    (cond (ltb n (2 ^ 32)) (cond (leb (s .axes) (length buf)) (record { code = 0 }) (record { code = 13 })) (record { code = 11 }))
-    (record { code = 15 })
+jumpSpec s n buf = record { code = firstDue (jumpRefusals s n buf) }
 
+-- the point of the index
 unfoldable pub jumpBuf : Sampler → ℕ → List ℕ → List ℕ
-jumpBuf s n buf = cond (eqb (jumpSpec s n buf .code) 0) (pointOf (planIn s) n ++ drop (s .axes) buf) buf
+jumpBuf s n buf = unlessDue (jumpRefusals s n buf) (pointOf (planIn s) n ++ drop (s .axes) buf) buf
 
--- ---- step: 15, 12, 13
+-- ---- step and block
+
+abbrev pub runRefusals : Sampler → List ℕ → List Condition
+runRefusals s buf = 15 when foreign s ∷ 12 when spent s ∷ 13 when noPointRoom s buf ∷ []
 
 unfoldable pub stepSpec : Sampler → List ℕ → Moved
-stepSpec s buf =
-    cond (genuine s)
-    (cond (ltb (s .taken) (s .count))
-    (cond (leb (s .axes) (length buf)) (moved 0 (made (planIn s) (s .start) (s .count) (s .taken + 1))) (moved 13 s)) (moved 12 s))
-    (moved 15 s)
+stepSpec s buf = moved (firstDue (runRefusals s buf)) (unlessDue (runRefusals s buf) (made (planIn s) (runIn s) (s .taken + 1)) s)
 
 -- the run's next point
 unfoldable pub stepBuf : Sampler → List ℕ → List ℕ
-stepBuf s buf = cond (eqb (stepSpec s buf .code) 0) (pointOf (planIn s) (s .start + s .taken) ++ drop (s .axes) buf) buf
-
--- ---- block: 15, 12, 13
+stepBuf s buf = unlessDue (runRefusals s buf) (runPoint (planIn s) (runIn s) (s .taken) ++ drop (s .axes) buf) buf
 
 -- as many points as are left and fit whole
 abbrev pub blockSize : Sampler → List ℕ → ℕ
@@ -78,24 +109,23 @@ blockSize s buf = min (s .count - s .taken) (length buf / s .axes)
 
 unfoldable pub blockSpec : Sampler → List ℕ → Blocked
 blockSpec s buf =
-    cond (genuine s)
-    (cond (ltb (s .taken) (s .count))
-    (cond (leb (s .axes) (length buf))
-    (blocked 0 (blockSize s buf) (made (planIn s) (s .start) (s .count) (s .taken + blockSize s buf)))
-    (blocked 13 0 s))
-    (blocked 12 0 s))
-    (blocked 15 0 s)
+    blocked (firstDue (runRefusals s buf)) (unlessDue (runRefusals s buf) (blockSize s buf) 0)
+    (unlessDue (runRefusals s buf) (made (planIn s) (runIn s) (s .taken + blockSize s buf)) s)
 
+-- those points, one after another
 unfoldable pub blockBuf : Sampler → List ℕ → List ℕ
 blockBuf s buf =
-    cond (eqb (blockSpec s buf .code) 0)
-    (pointsFrom (planIn s) (s .start + s .taken) (blockSize s buf) ++ drop (blockSize s buf * s .axes) buf) buf
+    unlessDue (runRefusals s buf)
+    (runPoints (planIn s) (runIn s) (s .taken) (blockSize s buf) ++ drop (blockSize s buf * s .axes) buf) buf
 
--- ---- second: 15, 11
+-- ---- second
+
+abbrev pub secondRefusals : Sampler → ℕ → List Condition
+secondRefusals s n = 15 when foreign s ∷ 11 when beyond n ∷ []
 
 -- the whole part of axis 1's fraction × 86,400
 unfoldable pub secondSpec : Sampler → ℕ → SecondOfDay
-secondSpec s n =
-    cond (genuine s)
-    (cond (ltb n (2 ^ 32)) (record { code = 0; second = slotOf (planIn s) 86400 n 0 }) (record { code = 11; second = 0 }))
-    (record { code = 15; second = 0 })
+secondSpec s n = record {
+  code = firstDue (secondRefusals s n);
+  second = unlessDue (secondRefusals s n) (slotOf (planIn s) 86400 n 0) 0;
+}

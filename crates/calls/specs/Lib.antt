@@ -1,2 +1,4 @@
 pub mod Calls
 pub mod Steps
+pub mod History
+pub mod Demand2

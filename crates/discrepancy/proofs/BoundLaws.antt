@@ -5,13 +5,14 @@ use Prim.Native.Nat.{ℕ, zero, suc, _*_, _^_, _≤_, _<_}
 use native.Mathlib.Nat.{le-refl, le-trans, le-of-lt, dvd-refl, dvd-zero, mul-le-mul-right}
 use native.Mathlib.Omega.{arith}
 use Rattle.numbers.specs.Gcd.{Coprime, Invertible}
-use Rattle.numbers.specs.Digits.{digitCount}
+use Rattle.numbers.specs.Count.{count, each}
+use Rattle.numbers.specs.Digits.{digitCount, productTo}
 use Rattle.numbers.proofs.Cases.{lt-or-ge}
 use Rattle.numbers.proofs.GcdLaws.{gcd-one-iff-coprime}
 use Rattle.numbers.proofs.InverseLaws.{invertible-one, invertible-mul, gcd-one-iff-invertible}
 use Rattle.numbers.proofs.DigitLaws.{digit-count-reaches}
 use Rattle.numbers.proofs.DepthLaws.{depth-covers}
-use Rattle.discrepancy.specs.Bound.{CutAxis, inCut, inside, insideCount, uProduct, qProduct, factor, bound, Near, Sound, SoundAxes, haltonAxes, HaltonRun}
+use Rattle.discrepancy.specs.Bound.{CutAxis, inCut, inside, factor, bound, baseOf, uOf, qOf, Near, Sound, SoundAxes, haltonAxes, HaltonRun}
 use Rattle.discrepancy.proofs.FairLaws.{Fair, fair-none, fair-near, fair-axis}
 
 invertible : (m b : ℕ) → Coprime m b → Invertible m b
@@ -37,8 +38,8 @@ Apart ax s M = (i : ℕ) → i < s → Invertible M (ax i .base)
 
 -- The bound may be that of more steps than are counted.
 pub axes-fair : (N N′ : ℕ) → N ≤ N′ → (ax : ℕ → CutAxis) (s : ℕ) → SoundAxes N′ ax s
-    → Fair N (Apart ax s) (inside ax s) (uProduct ax s) (qProduct ax s) (bound N′ ax s)
-unfolding inCut inside uProduct qProduct factor bound
+    → Fair N (Apart ax s) (inside ax s) (productTo (uOf ax) s) (productTo (qOf ax) s) (bound (baseOf ax) s N′)
+unfolding inCut inside each productTo factor
 axes-fair N N′ h ax zero z = fair-none N (Apart ax 0)
 axes-fair N N′ h ax (suc s) z =
     fair-axis (last .permutes) (omega (arith, last .base-big)) (axes-fair N N′ h ax s fewer) closed
@@ -60,10 +61,10 @@ axes-fair N N′ h ax (suc s) z =
 
 -- of the first N of N′ steps
 pub first-near : (N N′ : ℕ) → N ≤ N′ → (ax : ℕ → CutAxis) (s : ℕ) → SoundAxes N′ ax s
-    → Near N (insideCount N ax s) (uProduct ax s) (qProduct ax s) (bound N′ ax s)
+    → Near N (count (inside ax s) N) (productTo (uOf ax) s) (productTo (qOf ax) s) (bound (baseOf ax) s N′)
 first-near N N′ h ax s z = fair-near (axes-fair N N′ h ax s z) (λ i l. invertible-one (ax i .base))
 
-pub axes-near : (N : ℕ) (ax : ℕ → CutAxis) (s : ℕ) → SoundAxes N ax s → Near N (insideCount N ax s) (uProduct ax s) (qProduct ax s) (bound N ax s)
+pub axes-near : (N : ℕ) (ax : ℕ → CutAxis) (s : ℕ) → SoundAxes N ax s → Near N (count (inside ax s) N) (productTo (uOf ax) s) (productTo (qOf ax) s) (bound (baseOf ax) s N)
 axes-near N ax s z = first-near N N (le-refl N) ax s z
 
 -- ---- a run with indexes below 2^32
@@ -86,6 +87,6 @@ module _ (N s : ℕ) (σ : ℕ → ℕ → ℕ) (b start : ℕ → ℕ) (r : ℕ
       }
 
   -- Demand 3: of N steps as many are inside as the window's share of N, to within the bound.
-  pub halton-near : Near N (insideCount N (haltonAxes σ b start r u q) s) (uProduct (haltonAxes σ b start r u q) s)
-      (qProduct (haltonAxes σ b start r u q) s) (bound N (haltonAxes σ b start r u q) s)
+  pub halton-near : Near N (count (inside (haltonAxes σ b start r u q) s) N) (productTo u s) (productTo q s) (bound b s N)
+  unfolding haltonAxes
   halton-near = axes-near N (haltonAxes σ b start r u q) s halton-sound

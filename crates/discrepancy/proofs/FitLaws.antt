@@ -7,10 +7,11 @@ use native.Mathlib.Nat.{le-refl, le-trans, lt-of-le-of-lt, mul-le-mul, mul-le-mu
 use native.Mathlib.Omega.{arith}
 use lib.Dec.{leb, lit<, lit≤}
 use borrow.Author.Tests.{leb-true}
-use Rattle.numbers.specs.Digits.{digitCount, digitCountIn}
-use Rattle.numbers.proofs.EachLaws.{each, each-at}
+use Rattle.numbers.specs.Digits.{digitCount, digitCountIn, productTo}
+use Rattle.numbers.specs.Count.{each}
+use Rattle.numbers.proofs.EachLaws.{each-at}
 use Rattle.numbers.proofs.DigitLaws.{digit-count-mono}
-use Rattle.discrepancy.specs.Bound.{CutAxis, factor, bound}
+use Rattle.discrepancy.specs.Bound.{factor, bound}
 
 -- at the longest run
 abbrev factor-small : ℕ → Bool
@@ -29,14 +30,14 @@ factor-le b N l h n = le-trans longer (leb-true _ _ (rw again at (each-at factor
     longer : factor b N ≤ factor b (2 ^ 32)
     longer = unfold factor in omega (arith, mul-le-mul-right (b - 1) (digit-count-mono b l n))
 
-module _ (N : ℕ) (ax : ℕ → CutAxis) (n : N ≤ 2 ^ 32) where
-  bound-le : (s : ℕ) → ((i : ℕ) → i < s → (2 ≤ ax i .base) × (ax i .base ≤ 256)) → bound N ax s ≤ 1276 ^ s
-  unfolding bound
+module _ (N : ℕ) (b : ℕ → ℕ) (n : N ≤ 2 ^ 32) where
+  bound-le : (s : ℕ) → ((i : ℕ) → i < s → (2 ≤ b i) × (b i ≤ 256)) → bound b s N ≤ 1276 ^ s
+  unfolding productTo
   bound-le zero h = lit≤ tt
   bound-le (suc s) h =
       let base = h s (le-refl (suc s)) in
-      rw pow-suc (mul-le-mul (bound-le s (λ i l. h i (omega arith))) (factor-le (ax s .base) N (base .0) (base .1) n))
+      rw pow-suc (mul-le-mul (bound-le s (λ i l. h i (omega arith))) (factor-le (b s) N (base .0) (base .1) n))
 
   -- the bound of six axes is a word
-  pub bound-fits : (s : ℕ) → s ≤ 6 → ((i : ℕ) → i < s → (2 ≤ ax i .base) × (ax i .base ≤ 256)) → bound N ax s < 2 ^ 64
+  pub bound-fits : (s : ℕ) → s ≤ 6 → ((i : ℕ) → i < s → (2 ≤ b i) × (b i ≤ 256)) → bound b s N < 2 ^ 64
   bound-fits s l h = lt-of-le-of-lt (le-trans (bound-le s h) (pow-le-pow-right (lit< tt) l)) (lit< tt)

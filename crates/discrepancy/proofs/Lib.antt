@@ -5,4 +5,3 @@ pub mod ThinLaws
 pub mod FairLaws
 pub mod BoundLaws
 pub mod FitLaws
-pub mod Examples

@@ -1,11 +1,11 @@
 -- A window over a run of Halton points: which points are inside, how many, and how far that number may lie from its share (demand 3 of
 -- 00-request.md). The axes are an indexed family, numbered from 0, with a number s of axes. Definitions only.
-use mathlib.Core.Bool.{Bool, true, _&&_}
-use Prim.Native.Nat.{ℕ, zero, suc, _+_, _-_, _*_, _^_, _≤_, _<_}
+use mathlib.Core.Bool.{Bool}
+use Prim.Native.Nat.{ℕ, _+_, _-_, _*_, _^_, _≤_, _<_}
 use Rattle.numbers.specs.Gcd.{Coprime}
-use Rattle.numbers.specs.Digits.{digitCount, numeratorTo}
+use Rattle.numbers.specs.Digits.{digitCount, numeratorTo, productTo}
 use Rattle.numbers.specs.Depth.{depth}
-use Rattle.numbers.specs.Count.{count}
+use Rattle.numbers.specs.Count.{each}
 use Rattle.numbers.specs.Cut.{belowCut}
 use Rattle.permutation.specs.Permutes.{Permutes}
 
@@ -27,37 +27,40 @@ indexAt a t = a .start + a .stride * t
 unfoldable pub inCut : CutAxis → ℕ → Bool
 inCut a t = belowCut (numeratorTo (a .image) (a .base) (a .depth) (indexAt a t)) (a .base ^ a .depth) (a .u) (a .q)
 
+-- axis i, at step t
+abbrev pub axisIn : (ℕ → CutAxis) → ℕ → ℕ → Bool
+axisIn ax t i = inCut (ax i) t
+
 -- the point of step t is inside: below the cut on each of the s axes
 unfoldable pub inside : (ℕ → CutAxis) → ℕ → ℕ → Bool
-inside ax zero t = true
-inside ax (suc s) t = inside ax s t && inCut (ax s) t
-
--- S: how many of the run's N points are inside
-abbrev pub insideCount : ℕ → (ℕ → CutAxis) → ℕ → ℕ
-insideCount N ax s = count (inside ax s) N
-
--- U, the product of all u, and Q, the product of all q
-unfoldable pub uProduct : (ℕ → CutAxis) → ℕ → ℕ
-uProduct ax zero = 1
-uProduct ax (suc s) = uProduct ax s * ax s .u
-
-unfoldable pub qProduct : (ℕ → CutAxis) → ℕ → ℕ
-qProduct ax zero = 1
-qProduct ax (suc s) = qProduct ax s * ax s .q
+inside ax s t = each (axisIn ax t) s
 
 -- an axis's factor of the bound: K (b - 1) + 1, K the number of digits of N in base b
 unfoldable pub factor : ℕ → ℕ → ℕ
 factor b N = digitCount b N * (b - 1) + 1
 
--- the bound: the product of the factors
-unfoldable pub bound : ℕ → (ℕ → CutAxis) → ℕ → ℕ
-bound N ax zero = 1
-bound N ax (suc s) = bound N ax s * factor (ax s .base) N
+-- the bound over the bases b of s axes: the product of the factors
+abbrev pub factorAt : (ℕ → ℕ) → ℕ → ℕ → ℕ
+factorAt b N i = factor (b i) N
 
--- S differs from N times U / Q by less than B, multiplied out over whole numbers: the size of S × Q - N × U is less than B × Q.
+abbrev pub bound : (ℕ → ℕ) → ℕ → ℕ → ℕ
+bound b s N = productTo (factorAt b N) s
+
+-- S, how many of N points are inside, differs from N times U / Q by less than B, U being the product of all u and Q that of all q. Multiplied
+-- out over whole numbers: the size of S × Q - N × U is less than B × Q.
 pub record Near (N S U Q B : ℕ) : Type 0 where
   pub crowded : S * Q < N * U + B * Q
   pub neglected : N * U < S * Q + B * Q
+
+-- the bases, the u and the q of axes
+abbrev pub baseOf : (ℕ → CutAxis) → ℕ → ℕ
+baseOf ax i = ax i .base
+
+abbrev pub uOf : (ℕ → CutAxis) → ℕ → ℕ
+uOf ax i = ax i .u
+
+abbrev pub qOf : (ℕ → CutAxis) → ℕ → ℕ
+qOf ax i = ax i .q
 
 -- ---- what is asked
 

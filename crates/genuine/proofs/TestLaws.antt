@@ -13,7 +13,7 @@ use Rattle.plan.specs.Answer.{answerOf, planAnswered, Accepted}
 use Rattle.plan.specs.declared.PlanRead.{PlanRead}
 use Rattle.plan.proofs.SpellingLaws.{spell-length, spell-below}
 use Rattle.plan.proofs.AnswerLaws.{read-accepted}
-use Rattle.state.specs.State.{both, msIn, planIn, permitted, samePlan, sameRun, sameState, made, genuineBy, genuine}
+use Rattle.state.specs.State.{both, msIn, planIn, runIn, permitted, samePlan, sameRun, sameState, made, genuineBy, genuine}
 use Rattle.state.specs.declared.Sampler.{Sampler}
 use Rattle.state.proofs.GenuineLaws.{Genuine, genuine-is}
 use Rattle.writer.specs.Parts.{Writable, noRoom, writtenIf, Written}
@@ -71,16 +71,16 @@ module _ (s : Sampler) (a : PlanRead) (e : a ≡ answerOf (readPlan (spell (plan
         let r = read-accepted (spell (planIn s)) (spell-below (planIn s)) a e z in
         record { valid = r .1; is = e ∙ ap answerOf (r .0) }
 
-    parts : genuine s ≡ both (permitted (s .start) (s .count) (s .taken))
-        (sameState s (made (planAnswered a) (s .start) (s .count) (s .taken)))
+    parts : genuine s ≡ both (permitted (runIn s) (s .taken))
+        (sameState s (made (planAnswered a) (runIn s) (s .taken)))
     unfolding genuine genuineBy
     parts = rw (read-accepted (spell (planIn s)) (spell-below (planIn s)) a e z .0) refl
 
-    pub not-permitted : permitted (s .start) (s .count) (s .taken) ≡ false → false ≡ genuine s
+    pub not-permitted : permitted (runIn s) (s .taken) ≡ false → false ≡ genuine s
     unfolding both
     not-permitted f = sym (parts ∙ rw f refl)
 
-    module _ (t : Sampler) (m : t ≡ made (planAnswered a) (s .start) (s .count) (s .taken)) (run : permitted (s .start) (s .count) (s .taken) ≡ true) where
+    module _ (t : Sampler) (m : t ≡ made (planAnswered a) (runIn s) (s .taken)) (run : permitted (runIn s) (s .taken) ≡ true) where
       pub other-plan : samePlan s t ≡ false → false ≡ genuine s
       unfolding both sameState
       other-plan f = sym (parts ∙ rw (run, ← m, f) refl)

@@ -4,6 +4,7 @@ use writer::PlanWritten;
 ghost use mathlib.Core.Path.{_≡_};
 ghost use mathlib.Core.Bool.{true};
 ghost use Rattle.writer.specs.Parts.{Written};
+ghost use Rattle.points.specs.Run.{runOf};
 ghost use Rattle.state.specs.State.{planIn, permitted, genuine};
 
 // Whether some accepted reading, with any accepted openings, steps and blocks after it, leaves the state: its plan is spelled and read again,
@@ -50,14 +51,11 @@ pub fn write_plan(s: Sampler, out: &mut [u8]) -> PlanWritten
     writer::write_plan(out, s.family, s.axes, &bases, &polynomials, &ms)
 }
 
-// Whether start + count is at most 2^32, and no more points are taken than there are.
+// Whether the run is permitted, and no more points are taken than it has.
 fn is_permitted(start: u64, count: u64, taken: u64) -> bool
-    ensures { λ r. ⌜ r ≡ permitted start count taken ⌝ }
+    ensures { λ r. ⌜ r ≡ permitted (runOf start count) taken ⌝ }
 {
-    if 4294967296 < start {
-        return false;
-    }
-    if 4294967296 - start < count {
+    if !points::in_range(start, count) {
         return false;
     }
     taken <= count

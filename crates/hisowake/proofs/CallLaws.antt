@@ -1,12 +1,9 @@
 -- Each answer of each call, from the tests that lead to it; and what putting a plan's point leaves. Assumes nothing.
 use mathlib.Core.Path.{_≡_, refl, sym, ap, _∙_}
-use mathlib.Core.Bool.{false}
 use mathlib.Core.List.{List, _++_}
 use Prim.Native.Nat.{ℕ, _+_, _*_}
 use native.Mathlib.Omega.{arith}
-use lib.Dec.{eqb}
 use lib.ListN.{length, take, drop}
-use borrow.Author.Tests.{ne-eqb}
 use Rattle.numbers.proofs.ListedLaws.{padded-take}
 use Rattle.bits.specs.Stream.{AllBelow, overwrite}
 use Rattle.plan.specs.Plan.{Plan, Valid}
@@ -18,10 +15,11 @@ use Rattle.points.specs.Point.{axisCount, pointOf}
 use Rattle.points.specs.Arrays.{directionsArray, pointAt}
 use Rattle.points.proofs.PointLaws.{point-of-length}
 use Rattle.state.proofs.StateLaws.{Holds, holds-point, accepted-holds}
-use Rattle.c_refusals.specs.Refusals.{pointRefusal}
+use Rattle.plan.specs.Order.{firstDue}
+use Rattle.plan.proofs.OrderLaws.{unless-none, unless-turned}
 use Rattle.big_endian.specs.Bytes.{wordBytes}
 use Rattle.big_endian.proofs.ByteLaws.{length-words}
-use Rattle.hisowake.specs.Calls.{pointCodeBy, pointCode, pointBytesBy, pointBytes}
+use Rattle.hisowake.specs.Calls.{pointOrder, pointCodeBy, pointCode, pointBytesBy, pointBytes}
 
 -- ---- the plan that is read
 
@@ -53,16 +51,13 @@ module _ (bytes : List ℕ) (index : ℕ) (out : List ℕ) where
   point-refused n e = (rw e refl, rw e refl)
 
   module _ (p : Plan) (e : readPlan bytes ≡ accepted p) where
-    pub point-turned : (c : ℕ) → c ≡ pointRefusal index (axisCount p) (length out) → (c ≡ 0 → ⊥)
-        → (c ≡ pointCode bytes index out) × (out ≡ pointBytes bytes index out)
+    pub point-turned : (c : ℕ) → c ≡ firstDue (pointOrder p index out) → (c ≡ 0 → ⊥) → (c ≡ pointCode bytes index out) × (out ≡ pointBytes bytes index out)
     unfolding pointCode pointCodeBy pointBytes pointBytesBy
-    point-turned c is f =
-        let no : eqb (pointRefusal index (axisCount p) (length out)) 0 ≡ false = ne-eqb _ 0 (λ z. f (is ∙ z)) in
-        (rw e is, rw (e, no) refl)
+    point-turned c is f = (rw e is, rw e (sym (unless-turned (pointOrder p index out) _ out (λ z. f (is ∙ z)))))
 
     -- what is put is the plan's point of the index, with as many axes as the plan has
-    pub point-done : {new : List ℕ} {axes n : ℕ} → 0 ≡ pointRefusal index (axisCount p) (length out)
+    pub point-done : {new : List ℕ} {axes n : ℕ} → 0 ≡ firstDue (pointOrder p index out)
         → new ≡ wordBytes (pointOf p n) ++ drop (8 * axes) out → n ≡ index → axes ≡ axisCount p
         → (0 ≡ pointCode bytes index out) × (new ≡ pointBytes bytes index out)
     unfolding pointCode pointCodeBy pointBytes pointBytesBy
-    point-done is put en ea = (rw e is, put ∙ rw (e, ← is, en, ea) refl)
+    point-done is put en ea = (rw e is, put ∙ rw (e, en, ea) (sym (unless-none (pointOrder p index out) _ out (sym is))))

@@ -1,6 +1,5 @@
 // The calls of the host firmware, which is C: on numbers and byte slices, with no state. A slice is a pointer and a length.
 use plan::PlanRead;
-use plan::refusal;
 ghost use mathlib.Core.Path.{_≡_};
 ghost use mathlib.Core.Bool.{true};
 ghost use mathlib.Core.List.{_++_};
@@ -8,8 +7,9 @@ ghost use Prim.Native.Nat.{_+_, _*_, _^_, _<_, _≤_};
 ghost use lib.ListN.{length, drop};
 ghost use Rattle.plan.specs.Answer.{planAnswered, Accepted};
 ghost use Rattle.points.specs.Point.{pointOf};
+ghost use Rattle.points.specs.Run.{runOf, inRange};
 ghost use Rattle.big_endian.specs.Bytes.{wordBytes};
-ghost use Rattle.hisowake.specs.Calls.{pointCode, pointBytes, isWindowBytes, windowRefusal, answersOf, countCode, countBytes};
+ghost use Rattle.hisowake.specs.Calls.{pointCode, pointBytes, isWindowBytes, answersOf, countCode, countBytes};
 
 // Writes the point of index `n` of a plan that the reader accepted.
 fn put_point(out: &mut [u8], a: PlanRead, n: u64)
@@ -40,26 +40,23 @@ pub extern "C" fn hisowake_point(plan: &[u8], index: u64, out: &mut [u8]) -> u64
     0
 }
 
-// 0 where these bytes are a window of so many axes, 8 bytes an axis and each u and q in its range; else the number that turns it down.
-fn window_refusal(bytes: &[u8], axes: usize) -> u64
+// Whether these bytes are a window of so many axes: 8 bytes an axis, and each u and q in its range.
+fn is_window_bytes(bytes: &[u8], axes: usize) -> bool
     requires { ⌜ axes ≤ 6 ⌝ }
-    ensures { λ r. ⌜ r ≡ windowRefusal (now (bytes .entry)) axes ⌝ }
+    ensures { λ r. ⌜ r ≡ isWindowBytes (now (bytes .entry)) axes ⌝ }
 {
     if bytes.len() != 8 * axes {
-        return refusal::BAD_WINDOW;
+        return false;
     }
     let w = big_endian::window_numbers(bytes, axes);
     let end = 2 * axes;
-    if window::is_window(&w[..end], axes) {
-        return 0;
-    }
-    refusal::BAD_WINDOW
+    window::is_window(&w[..end], axes)
 }
 
 // Writes S and the bound of a run of a plan that the reader accepted.
 fn put_count(out: &mut [u8], a: PlanRead, start: u64, count: u64, window: &[u8])
-    requires { ⌜ Accepted a × (start + count ≤ 2 ^ 32) × (isWindowBytes (now window) (a .axes) ≡ true) × (16 ≤ length (now out)) ⌝ }
-    ensures { λ r. ⌜ now (out .exit) ≡ wordBytes (answersOf (planAnswered a) start count (now (window .entry))) ++ drop 16 (now (out .entry)) ⌝ }
+    requires { ⌜ Accepted a × (inRange (runOf start count) ≡ true) × (isWindowBytes (now window) (a .axes) ≡ true) × (16 ≤ length (now out)) ⌝ }
+    ensures { λ r. ⌜ now (out .exit) ≡ wordBytes (answersOf (planAnswered a) (runOf start count) (now (window .entry))) ++ drop 16 (now (out .entry)) ⌝ }
 {
     let axes = a.axes;
     let bases = a.bases;
@@ -89,13 +86,13 @@ pub extern "C" fn hisowake_window_count(
     window: &[u8],
     out: &mut [u8],
 ) -> u64
-    ensures { λ r. ⌜ (r ≡ countCode (now (plan .entry)) start count (now (window .entry)) (now (out .entry))) × (now (out .exit) ≡ countBytes (now (plan .entry)) start count (now (window .entry)) (now (out .entry))) ⌝ }
+    ensures { λ r. ⌜ (r ≡ countCode (now (plan .entry)) (runOf start count) (now (window .entry)) (now (out .entry))) × (now (out .exit) ≡ countBytes (now (plan .entry)) (runOf start count) (now (window .entry)) (now (out .entry))) ⌝ }
 {
     let a = reader::read_plan(plan);
     if a.code != 0 {
         return a.code;
     }
-    let w = window_refusal(window, a.axes);
+    let w = is_window_bytes(window, a.axes);
     let code = c_refusals::count_refusal(start, count, w, out.len());
     if code != 0 {
         return code;

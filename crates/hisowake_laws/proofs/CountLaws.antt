@@ -1,38 +1,45 @@
 -- The C window count is a reading, an opening and a count: it answers the first number that these give, and leaves the bytes of what the count
--- answers. Assumes nothing.
-use mathlib.Core.Path.{_≡_, refl}
-use mathlib.Core.Bool.{true, false, cond}
+-- answers; so demand 3 holds of the two numbers that it writes. Assumes nothing.
+use mathlib.Core.Path.{_≡_, refl, ap, _∙_}
+use mathlib.Core.Bool.{true, false}
 use mathlib.Core.Logic.{⊎-elim}
 use mathlib.Core.List.{List, [], _∷_, _++_}
-use Prim.Native.Nat.{ℕ, _+_, _*_, _^_, _≤_, _<_}
-use lib.Dec.{eqb, ltb}
-use lib.ListN.{length, drop}
-use borrow.Author.Tests.{lt-ltb, le-ltb, eq-eqb, ne-eqb}
-use Rattle.numbers.proofs.Cases.{lt-or-ge, true-or-false}
+use Prim.Native.Nat.{ℕ, _*_}
+use native.Mathlib.Omega.{arith}
+use lib.Dec.{ltb}
+use lib.ListN.{length, take, drop}
+use lib.Seq.{take-at}
+use borrow.Author.Tests.{eq-eqb, ne-eqb}
+use Rattle.numbers.proofs.Cases.{true-or-false}
 use Rattle.bits.specs.Stream.{AllBelow}
-use Rattle.plan.specs.Plan.{Plan}
-use Rattle.plan.specs.Reading.{refused, accepted, readPlan}
+use Rattle.discrepancy.specs.Bound.{Near}
+use Rattle.plan.specs.Plan.{Plan, Valid, spell}
+use Rattle.plan.specs.Reading.{Reading, refused, accepted, readPlan}
+use Rattle.plan.specs.Order.{_when_, firstDue, unlessNumber, unlessDue}
+use Rattle.plan.proofs.AcceptLaws.{accepted-iff}
+use Rattle.plan.proofs.OrderLaws.{unless-none}
+use Rattle.plan.proofs.RefusalLaws.{refused-range}
 use Rattle.points.specs.Point.{axisCount}
+use Rattle.points.specs.Run.{Run, runOf, inRange}
+use Rattle.points.specs.Arrays.{familyOf}
+use Rattle.points.proofs.RunLaws.{is-range}
 use Rattle.state.specs.State.{made}
-use Rattle.state.specs.History.{Left}
 use Rattle.state.proofs.GenuineLaws.{made-genuine}
-use Rattle.state.proofs.HistoryLaws.{left-valid, left-permitted}
-use Rattle.calls.specs.Calls.{moved, readSpec, openSpec}
+use Rattle.state.proofs.HistoryLaws.{left-by}
+use Rattle.calls.specs.Calls.{moved, readState, readSpec, openSpec}
 use Rattle.calls.proofs.CaseLaws.{open-out}
-use Rattle.calls.proofs.RunLaws.{read-left, open-left}
-use Rattle.window.specs.Counting.{isWindow}
+use Rattle.calls.proofs.RunLaws.{open-at}
+use Rattle.window.specs.Counting.{insideCount, boundOf, cutsOf, isWindow}
 use Rattle.window_count.specs.Call.{countSpec}
 use Rattle.window_count.proofs.CaseLaws.{count-off}
-use Rattle.window_count.proofs.Demand3.{count-left}
-use Rattle.c_refusals.specs.Refusals.{countRefusal}
+use Rattle.window_count.proofs.Demand3.{uProduct, qProduct, count-left, plan-near}
 use Rattle.big_endian.specs.Bytes.{wordBytes, windowIn}
-use Rattle.hisowake.specs.Calls.{isWindowBytes, windowRefusal, answersOf, countCodeBy, countCode, countBytesBy, countBytes}
+use Rattle.big_endian.proofs.ByteLaws.{length-words}
+use Rattle.hisowake.specs.Calls.{isWindowBytes, answersOf, countOrder, countCodeBy, countCode, countBytesBy, countBytes}
+use Rattle.c_refusals.proofs.RefusalLaws.{count-zero}
+use Rattle.hisowake.proofs.CountLaws.{window-bytes}
 
--- the first number of the reading, the opening, the count and the room that is not 0
-abbrev pub firstOf : ℕ → ℕ → ℕ → ℕ → ℕ
-firstOf reading opening counting room = cond (eqb reading 0) (cond (eqb opening 0) (cond (eqb counting 0) room counting) opening) reading
-
-module _ (plan : List ℕ) (below : AllBelow 256 plan) (p : Plan) (e : readPlan plan ≡ accepted p) (start N : ℕ) (window out : List ℕ) (long : length window ≡ 8 * axisCount p) where
+module _ (plan : List ℕ) (below : AllBelow 256 plan) (p : Plan) (e : readPlan plan ≡ accepted p) (r : Run) (window out : List ℕ) (long : length window ≡ 8 * axisCount p) where
   -- the numbers of the window's bytes
   abbrev w : List ℕ
   w = windowIn window (axisCount p)
@@ -40,65 +47,103 @@ module _ (plan : List ℕ) (below : AllBelow 256 plan) (p : Plan) (e : readPlan 
   -- what the calls answer and leave, one after the other
   pub AsCalls : Type 0
   AsCalls =
-      let r = readSpec plan in
-      let o = openSpec (r .state) start N in
+      let a = readSpec plan in
+      let o = openSpec (a .state) r in
       let c = countSpec (o .state) w in
-      (countCode plan start N window out ≡ firstOf (r .code) (o .code) (c .code) (cond (ltb (length out) 16) 13 0))
-      × (countBytes plan start N window out
-      ≡ cond (eqb (countCode plan start N window out) 0) (wordBytes (c .inside ∷ c .bound ∷ []) ++ drop 16 out) out)
+      (countCode plan r window out ≡ unlessNumber (a .code) (unlessNumber (o .code) (unlessNumber (c .code) (firstDue (13 when ltb (length out) 16 ∷ [])) (c .code)) (o .code)) (a .code))
+      × (countBytes plan r window out ≡ unlessNumber (countCode plan r window out) (wordBytes (c .inside ∷ c .bound ∷ []) ++ drop 16 out) out)
 
-  read-is : readSpec plan ≡ moved 0 (made p 0 0 0)
-  read-is = read-left plan below p e .0
+  valid : Valid p
+  valid = accepted-iff plan below p .0 e .0
 
-  start-left : Left p 0 0 0
-  start-left = read-left plan below p e .1
+  none : inRange (runOf 0 0) ≡ true
+  none = is-range (runOf 0 0) (omega arith)
 
-  window-is : windowRefusal window (axisCount p) ≡ cond (isWindow w (axisCount p)) 0 14
-  unfolding windowRefusal isWindowBytes
+  read-is : readSpec plan ≡ moved 0 (made p (runOf 0 0) 0)
+  unfolding readSpec readState
+  read-is = rw e refl
+
+  window-is : isWindowBytes window (axisCount p) ≡ isWindow w (axisCount p)
+  unfolding isWindowBytes
   window-is = rw (eq-eqb (length window) (8 * axisCount p) long) refl
 
   -- the run is too long
-  out-of-range : 2 ^ 32 < start + N → AsCalls
-  unfolding AsCalls countCode countCodeBy countBytes countBytesBy countRefusal
+  out-of-range : inRange r ≡ false → AsCalls
+  unfolding AsCalls countCode countCodeBy countBytes countBytesBy firstDue unlessDue
   out-of-range h =
-      let g = made-genuine p (left-valid start-left) 0 0 0 (left-permitted start-left) in
-      let o = open-out (made p 0 0 0) start N g h in
-      rw (e, read-is, o, lt-ltb (2 ^ 32) (start + N) h) (refl, refl)
+      let g = made-genuine p valid (runOf 0 0) 0 (record { in-range = none; not-past = omega arith }) in
+      let o = open-out (made p (runOf 0 0) 0) r g h in
+      rw (e, read-is, o, h) (refl, refl)
 
-  module _ (h : start + N ≤ 2 ^ 32) where
-    open-is : openSpec (made p 0 0 0) start N ≡ moved 0 (made p start N 0)
-    open-is = open-left start-left start N h .0
-
-    opened-left : Left p start N 0
-    opened-left = open-left start-left start N h .1
+  module _ (h : inRange r ≡ true) where
+    open-is : openSpec (made p (runOf 0 0) 0) r ≡ moved 0 (made p r 0)
+    open-is = open-at p valid (runOf 0 0) none 0 (omega arith) r h
 
     -- the window is none
     off : isWindow w (axisCount p) ≡ false → AsCalls
-    unfolding AsCalls countCode countCodeBy countBytes countBytesBy countRefusal made
+    unfolding AsCalls countCode countCodeBy countBytes countBytesBy firstDue unlessDue made
     off f =
-        let g = made-genuine p (left-valid opened-left) start N 0 (left-permitted opened-left) in
-        let c = count-off (made p start N 0) w g f in
-        rw (e, read-is, open-is, c, le-ltb (2 ^ 32) (start + N) h, window-is, f) (refl, refl)
+        let g = made-genuine p valid r 0 (record { in-range = h; not-past = omega arith }) in
+        let c = count-off (made p r 0) w g f in
+        rw (e, read-is, open-is, c, h, window-is, f) (refl, refl)
 
     counts : isWindow w (axisCount p) ≡ true → AsCalls
-    unfolding AsCalls countCode countCodeBy countBytes countBytesBy countRefusal answersOf
+    unfolding AsCalls countCode countCodeBy countBytes countBytesBy firstDue unlessDue answersOf
     counts t =
-        let c = count-left opened-left w t in
-        rw (e, read-is, open-is, c, le-ltb (2 ^ 32) (start + N) h, window-is, t) (refl, refl)
+        let c = count-left (left-by p valid r 0 (record { in-range = h; not-past = omega arith })) w t in
+        rw (e, read-is, open-is, c, h, window-is, t) (refl, refl)
 
   pub count-as-calls : AsCalls
   count-as-calls =
-      ⊎-elim (λ h. out-of-range h) (λ h. ⊎-elim (λ t. counts h t) (λ f. off h f) (true-or-false (isWindow w (axisCount p)))) (lt-or-ge (2 ^ 32) (start + N))
+      ⊎-elim (λ h. ⊎-elim (λ t. counts h t) (λ f. off h f) (true-or-false (isWindow w (axisCount p)))) (λ h. out-of-range h) (true-or-false (inRange r))
 
 -- a window of another length is turned down after the run, as a list of numbers of another length is
-pub count-of-other-length : (plan : List ℕ) (p : Plan) → readPlan plan ≡ accepted p → (start N : ℕ) (window out : List ℕ) → (length window ≡ 8 * axisCount p → ⊥)
-    → start + N ≤ 2 ^ 32 → (countCode plan start N window out ≡ 14) × (countBytes plan start N window out ≡ out)
-unfolding countCode countCodeBy countBytes countBytesBy countRefusal windowRefusal isWindowBytes
-count-of-other-length plan p e start N window out f h =
-    rw (e, le-ltb (2 ^ 32) (start + N) h, ne-eqb (length window) (8 * axisCount p) f) (refl, refl)
+pub count-of-other-length : (plan : List ℕ) (p : Plan) → readPlan plan ≡ accepted p → (r : Run) (window out : List ℕ) → (length window ≡ 8 * axisCount p → ⊥)
+    → inRange r ≡ true → (countCode plan r window out ≡ 14) × (countBytes plan r window out ≡ out)
+unfolding countCode countCodeBy countBytes countBytesBy firstDue unlessDue isWindowBytes
+count-of-other-length plan p e r window out f h = rw (e, h, ne-eqb (length window) (8 * axisCount p) f) (refl, refl)
 
 -- a refused plan gives the reading's number
-pub count-of-refused : (plan : List ℕ) (n : ℕ) → readPlan plan ≡ refused n → (start N : ℕ) (window out : List ℕ)
-    → (countCode plan start N window out ≡ n) × (countBytes plan start N window out ≡ out)
+pub count-of-refused : (plan : List ℕ) (n : ℕ) → readPlan plan ≡ refused n → (r : Run) (window out : List ℕ)
+    → (countCode plan r window out ≡ n) × (countBytes plan r window out ≡ out)
 unfolding countCode countCodeBy countBytes countBytesBy
-count-of-refused plan n e start N window out = rw e (refl, refl)
+count-of-refused plan n e r window out = rw e (refl, refl)
+
+-- ---- Demand 3 for the two numbers that the C count writes
+
+-- The bytes are a valid plan's; the first 16 bytes that are left are S and the bound; and if the plan is of a Halton family, S lies within the bound
+-- of the window's share.
+pub record NearInC (plan : List ℕ) (r : Run) (window out : List ℕ) : Type 0 where
+  pub of : Plan
+  pub valid : Valid of
+  pub spelled : plan ≡ spell of
+  pub inside : ℕ
+  pub bound : ℕ
+  pub bytes : take 16 (countBytes plan r window out) ≡ wordBytes (inside ∷ bound ∷ [])
+  pub inside-is : inside ≡ insideCount of (cutsOf (windowIn window (axisCount of)) (axisCount of)) r
+  pub bound-is : bound ≡ boundOf of (r .count)
+  pub near : (familyOf of ≡ 2 → ⊥) → let w = windowIn window (axisCount of) in Near (r .count) inside (uProduct w (axisCount of)) (qProduct w (axisCount of)) bound
+
+pub demand-3-in-c : (plan : List ℕ) → AllBelow 256 plan → (r : Run) (window out : List ℕ) → countCode plan r window out ≡ 0 → NearInC plan r window out
+unfolding countCode countCodeBy countBytes countBytesBy answersOf
+demand-3-in-c plan below r window out z = go (readPlan plan) refl
+  where
+    go : (a : Reading) → readPlan plan ≡ a → NearInC plan r window out
+    go (refused n) e = absurd (omega (arith, rw e at z, refused-range plan n e))
+    go (accepted p) e =
+        let y : firstDue (countOrder p r window out) ≡ 0 = rw e at z in
+        let c = count-zero r (isWindowBytes window (axisCount p)) (length out) y in
+        let v = accepted-iff plan below p .0 e in
+        let takes = window-bytes window (axisCount p) (c .1) .1 in
+        let left : countBytes plan r window out ≡ wordBytes (answersOf p r window) ++ drop 16 out = rw e (unless-none (countOrder p r window out) _ out y) in
+        record {
+          of = p;
+          valid = v .0;
+          spelled = v .1;
+          inside = insideCount p (cutsOf (windowIn window (axisCount p)) (axisCount p)) r;
+          bound = boundOf p (r .count);
+          bytes = ap (take 16) left ∙ take-at (wordBytes (answersOf p r window)) (drop 16 out) 16 (length-words (answersOf p r window));
+          inside-is = refl;
+          bound-is = refl;
+          near = λ f. plan-near p f (v .0) (axisCount p) refl r (c .0) (windowIn window (axisCount p)) takes;
+        }

@@ -1,14 +1,12 @@
 -- The C point is a reading and a jump: on the bytes of words it leaves the bytes of what these leave. Assumes nothing.
 use mathlib.Core.Path.{_≡_, refl, sym, ap, _∙_}
-use mathlib.Core.Bool.{true, false, cond}
+use mathlib.Core.Bool.{true}
 use mathlib.Core.Logic.{⊎-elim}
 use mathlib.Core.List.{List, _++_, append-assoc}
-use Prim.Native.Nat.{ℕ, _+_, _*_, _^_, _≤_, _<_}
+use Prim.Native.Nat.{ℕ, zero, suc, _+_, _*_, _^_, _≤_, _<_}
 use native.Mathlib.Omega.{arith}
-use lib.Dec.{eqb}
 use lib.ListN.{length, drop, length-append}
 use lib.Seq.{drop-append-le}
-use borrow.Author.Tests.{ne-eqb}
 use Rattle.numbers.proofs.Cases.{lt-or-ge}
 use Rattle.bits.specs.Stream.{AllBelow}
 use Rattle.plan.specs.Plan.{Plan, Valid}
@@ -16,6 +14,9 @@ use Rattle.plan.specs.Reading.{Reading, refused, accepted, readPlan}
 use Rattle.plan.proofs.AcceptLaws.{accepted-iff}
 use Rattle.plan.proofs.RefusalLaws.{refused-range}
 use Rattle.points.specs.Point.{axisCount, pointOf}
+use Rattle.plan.specs.Order.{firstDue, unlessNumber}
+use Rattle.points.specs.Run.{runOf}
+use Rattle.points.proofs.RunLaws.{is-range}
 use Rattle.state.specs.State.{made, blank, genuine}
 use Rattle.state.specs.declared.Sampler.{Sampler}
 use Rattle.state.proofs.PlanLaws.{plan-in-made}
@@ -24,7 +25,7 @@ use Rattle.state.proofs.StateLaws.{blank-foreign}
 use Rattle.calls.specs.Calls.{readState, readSpec, jumpSpec, jumpBuf}
 use Rattle.calls.specs.declared.Jumped.{Jumped}
 use Rattle.calls.proofs.CaseLaws.{jump-foreign, jump-out, jump-no-room, jump-done}
-use Rattle.c_refusals.specs.Refusals.{pointRefusal}
+use Rattle.c_refusals.specs.Refusals.{pointRefusals}
 use Rattle.c_refusals.proofs.RefusalLaws.{point-out, point-no-room, point-none}
 use Rattle.big_endian.specs.Bytes.{wordBytes}
 use Rattle.hisowake.specs.Calls.{pointCode, pointBytes}
@@ -35,7 +36,7 @@ use Rattle.hisowake.proofs.CallLaws.{point-refused, point-turned, point-done}
 abbrev pub AsSampler : List ℕ → ℕ → List ℕ → List ℕ → Type 0
 AsSampler plan index words rest =
     (pointCode plan index (wordBytes words ++ rest)
-    ≡ cond (eqb (readSpec plan .code) 0) (jumpSpec (readSpec plan .state) index words .code) (readSpec plan .code))
+    ≡ unlessNumber (readSpec plan .code) (jumpSpec (readSpec plan .state) index words .code) (readSpec plan .code))
     × (pointBytes plan index (wordBytes words ++ rest) ≡ wordBytes (jumpBuf (readSpec plan .state) index words) ++ rest)
 
 module _ (plan : List ℕ) (index : ℕ) (words rest : List ℕ) (short : length rest < 8) where
@@ -50,16 +51,19 @@ module _ (plan : List ℕ) (index : ℕ) (words rest : List ℕ) (short : length
   same s c buf j w =
       (sym (w .0) ∙ sym (ap (λ (x : Jumped). x .code) (j .0)), sym (w .1) ∙ ap (λ (l : List ℕ). wordBytes l ++ rest) (sym (j .1)))
 
+  number : (n done : ℕ) → (n ≡ 0 → ⊥) → unlessNumber n done n ≡ n
+  number zero done f = absurd (f refl)
+  number (suc n) done f = refl
+
   from-refused : (n : ℕ) → readPlan plan ≡ refused n → AsSampler plan index words rest
   unfolding readSpec readState
   from-refused n e =
       let w = point-refused plan index (wordBytes words ++ rest) n e in
-      let no : eqb n 0 ≡ false = ne-eqb n 0 (λ z. omega (arith, refused-range plan n e)) in
-      rw e (rw no (sym (w .0)), sym (w .1) ∙ ap (λ (l : List ℕ). wordBytes l ++ rest) (sym (jump-foreign blank index words blank-foreign .1)))
+      rw e (sym (w .0) ∙ sym (number n _ (λ z. omega (arith, refused-range plan n e))), sym (w .1) ∙ ap (λ (l : List ℕ). wordBytes l ++ rest) (sym (jump-foreign blank index words blank-foreign .1)))
 
   module _ (p : Plan) (v : Valid p) (e : readPlan plan ≡ accepted p) where
-    known : genuine (made p 0 0 0) ≡ true
-    known = made-genuine p v 0 0 0 (record { in-range = omega arith; not-past = omega arith })
+    known : genuine (made p (runOf 0 0) 0) ≡ true
+    known = made-genuine p v (runOf 0 0) 0 (record { in-range = is-range (runOf 0 0) (omega arith); not-past = omega arith })
 
     -- the point in front of the words is its bytes in front of their bytes
     front : axisCount p ≤ length words
@@ -77,20 +81,20 @@ module _ (plan : List ℕ) (index : ℕ) (words rest : List ℕ) (short : length
         let w = point-done plan index (wordBytes words ++ rest) p e {axes = axisCount p} {n = index} clear refl refl refl in
         (w .0, sym (front r) ∙ w .1)
 
-    turned : (c : ℕ) → c ≡ pointRefusal index (axisCount p) (length (wordBytes words ++ rest)) → (c ≡ 0 → ⊥)
+    turned : (c : ℕ) → c ≡ firstDue (pointRefusals index (axisCount p) (length (wordBytes words ++ rest))) → (c ≡ 0 → ⊥)
         → (c ≡ pointCode plan index (wordBytes words ++ rest)) × (wordBytes words ++ rest ≡ pointBytes plan index (wordBytes words ++ rest))
     turned = point-turned plan index (wordBytes words ++ rest) p e
 
-    jumped : (pointCode plan index (wordBytes words ++ rest) ≡ jumpSpec (made p 0 0 0) index words .code)
-        × (pointBytes plan index (wordBytes words ++ rest) ≡ wordBytes (jumpBuf (made p 0 0 0) index words) ++ rest)
+    jumped : (pointCode plan index (wordBytes words ++ rest) ≡ jumpSpec (made p (runOf 0 0) 0) index words .code)
+        × (pointBytes plan index (wordBytes words ++ rest) ≡ wordBytes (jumpBuf (made p (runOf 0 0) 0) index words) ++ rest)
     unfolding made
     jumped =
-        let s = made p 0 0 0 in
+        let s = made p (runOf 0 0) 0 in
         ⊎-elim
         (λ h.
         ⊎-elim
         (λ r. same s 13 words (jump-no-room s index words known h r) (turned 13 (point-no-room index (axisCount p) _ h (omega (arith, out-length))) (λ z. omega arith)))
-        (λ r. same s 0 (pointOf p index ++ drop (axisCount p) words) (rw (plan-in-made p v 0 0 0) at (jump-done s index words known h r)) (done h r))
+        (λ r. same s 0 (pointOf p index ++ drop (axisCount p) words) (rw (plan-in-made p v (runOf 0 0) 0) at (jump-done s index words known h r)) (done h r))
         (lt-or-ge (length words) (axisCount p)))
         (λ h. same s 11 words (jump-out s index words known h) (turned 11 (point-out index (axisCount p) _ h) (λ z. omega arith)))
         (lt-or-ge index (2 ^ 32))

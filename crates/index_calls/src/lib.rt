@@ -16,7 +16,7 @@ pub fn jump(s: Sampler, n: u64, out: &mut [u64]) -> Jumped
             code: refusal::INVALID_STATE,
         };
     }
-    if 4294967296 <= n {
+    if numbers::INDEXES <= n {
         return Jumped {
             code: refusal::OUT_OF_RANGE,
         };
@@ -52,7 +52,7 @@ pub fn second(s: Sampler, n: u64) -> SecondOfDay
             second: 0,
         };
     }
-    if 4294967296 <= n {
+    if numbers::INDEXES <= n {
         return SecondOfDay {
             code: refusal::OUT_OF_RANGE,
             second: 0,

@@ -8,7 +8,7 @@ use native.Mathlib.Numerals.{add-one}
 use native.Mathlib.Omega.{arith}
 use lib.Dec.{ltb}
 use lib.ListN.{length, take, drop, getD, replicate, getD-replicate}
-use Rattle.numbers.specs.Count.{bit, count}
+use Rattle.numbers.specs.Count.{bit, count, each}
 use Rattle.numbers.specs.Cut.{belowCut}
 use Rattle.numbers.proofs.Cases.{lt-iff}
 use Rattle.numbers.proofs.CountLaws.{count-ext, count-parts}
@@ -16,8 +16,8 @@ use Rattle.marks.specs.Marking.{Marked}
 use Rattle.sobol_tables.specs.Tables.{Directions}
 use Rattle.points.specs.Arrays.{numeratorAt, numeratorFrom, denominatorAt, Arrays}
 use Rattle.points.proofs.ArrayLaws.{numerator-at-lt, numerator-by-part, denominator-by-two}
-use Rattle.window.specs.Counting.{uOf, qOf}
-use Rattle.window.specs.Walking.{insideBy, insideFrom}
+use Rattle.window.specs.Counting.{cutAt}
+use Rattle.window.specs.Walking.{axisInsideBy, insideFrom}
 use Rattle.inside_count.specs.Flagging.{cutLimit, Flags}
 
 -- ---- the direction numbers of an axis
@@ -52,21 +52,21 @@ keep-bit false false = refl
 module _ (family : ℕ) (bases vs w : List ℕ) (n : ℕ) where
   -- no axis yet
   pub flags-none : (m : ℕ) → m ≤ 4096 → Flags (insideFrom family bases vs w 0 n) m (replicate 4096 1)
-  unfolding insideFrom insideBy
+  unfolding insideFrom each
   flags-none m h = record { at = λ i l. getD-replicate 4096 i 1 0 (omega arith) }
 
   -- one axis more
   pub flags-more : (s m limit : ℕ) (l new : List ℕ) → Flags (insideFrom family bases vs w s n) m l
       → Marked (numeratorFrom family bases vs n s) limit 0 m l new
-      → limit ≡ cutLimit (uOf w s) (qOf w s) (denominatorAt family bases s) → 1 ≤ qOf w s → Flags (insideFrom family bases vs w (s + 1) n) m new
-  unfolding insideFrom insideBy numeratorFrom
+      → limit ≡ cutLimit (cutAt w s .u) (cutAt w s .q) (denominatorAt family bases s) → 1 ≤ cutAt w s .q → Flags (insideFrom family bases vs w (s + 1) n) m new
+  unfolding insideFrom each axisInsideBy numeratorFrom
   flags-more s m limit l new f k e pos = record { at = one }
     where
-      one : (i : ℕ) → i < m → getD new i 0 ≡ bit (insideBy family bases vs w (n + i) (s + 1))
+      one : (i : ℕ) → i < m → getD new i 0 ≡ bit (each (axisInsideBy family bases vs w (n + i)) (s + 1))
       one i h =
           k .tested i (omega arith) h
-          ∙ rw (f .at i h, e, limit-cut (numeratorAt family bases vs (n + i) s) (denominatorAt family bases s) (uOf w s) (qOf w s) pos, add-one s)
-          (keep-bit (insideBy family bases vs w (n + i) s) (belowCut (numeratorAt family bases vs (n + i) s) (denominatorAt family bases s) (uOf w s) (qOf w s)))
+          ∙ rw (f .at i h, e, limit-cut (numeratorAt family bases vs (n + i) s) (denominatorAt family bases s) (cutAt w s .u) (cutAt w s .q) pos, add-one s)
+          (keep-bit (each (axisInsideBy family bases vs w (n + i)) s) (belowCut (numeratorAt family bases vs (n + i) s) (denominatorAt family bases s) (cutAt w s .u) (cutAt w s .q)))
 
   -- ---- parts of a run
 
@@ -75,7 +75,7 @@ module _ (family : ℕ) (bases vs w : List ℕ) (n : ℕ) where
   parts-join s i m =
       count-parts (insideFrom family bases vs w s n) i m
       ∙ ap (λ (k : ℕ). count (insideFrom family bases vs w s n) i + k)
-      (count-ext (λ j. insideFrom family bases vs w s n (i + j)) (insideFrom family bases vs w s (n + i)) m (λ j l. ap (λ (k : ℕ). insideBy family bases vs w k s) (sym (add-assoc n i j))))
+      (count-ext (λ j. insideFrom family bases vs w s n (i + j)) (insideFrom family bases vs w s (n + i)) m (λ j l. ap (λ (k : ℕ). each (axisInsideBy family bases vs w k) s) (sym (add-assoc n i j))))
 
 pub count-none : (p : ℕ → Bool) → 0 ≡ count p 0
 unfolding count

@@ -20,6 +20,11 @@ unfoldable pub sum : (ℕ → ℕ) → ℕ → ℕ
 sum f zero = 0
 sum f (suc k) = sum f k + f k
 
+-- f 0 × f 1 × .. × f (k - 1)
+unfoldable pub productTo : (ℕ → ℕ) → ℕ → ℕ
+productTo f zero = 1
+productTo f (suc k) = productTo f k * f k
+
 -- what digit j adds to a numerator of k digits, each digit replaced by its image under σ
 unfoldable pub term : (ℕ → ℕ) → ℕ → ℕ → ℕ → ℕ → ℕ
 term σ b k n j = σ (digit b n j) * b ^ (k - 1 - j)

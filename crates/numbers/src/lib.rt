@@ -5,6 +5,9 @@ ghost use Rattle.numbers.specs.Gcd.{gcd};
 ghost use Rattle.numbers.specs.Digits.{digitCount};
 ghost use Rattle.numbers.specs.Depth.{depth, denominator};
 
+// How many indexes there are, 2^32: an index lies below it, and a run's start + count is at most this.
+pub const INDEXES: u64 = 4294967296;
+
 // The greatest common divisor, by Euclid's rule.
 pub fn gcd(a: u64, b: u64) -> u64
     ensures { λ r. ⌜ r ≡ gcd a b ⌝ }

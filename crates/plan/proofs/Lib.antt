@@ -12,3 +12,4 @@ pub mod AnswerLaws
 pub mod BlankLaws
 pub mod PartLaws
 pub mod Examples
+pub mod OrderLaws

@@ -4,6 +4,7 @@ use plan::refusal;
 use state::Sampler;
 use writer::PlanWritten;
 ghost use mathlib.Core.Path.{_≡_};
+ghost use Rattle.points.specs.Run.{runOf};
 ghost use Rattle.calls.specs.Calls.{readSpec, writeSpec, writeBuf, openSpec};
 
 // Reads a plan: the state with start 0 and count 0, or the blank state.
@@ -37,15 +38,12 @@ pub fn write(s: Sampler, out: &mut [u8]) -> PlanWritten
 
 // Opens a run, which replaces the old one.
 pub fn open(s: Sampler, start: u64, count: u64) -> Moved
-    ensures { λ r. ⌜ r ≡ openSpec s start count ⌝ }
+    ensures { λ r. ⌜ r ≡ openSpec s (runOf start count) ⌝ }
 {
     if !genuine::is_genuine(s) {
         return calls::refused(refusal::INVALID_STATE, s);
     }
-    if 4294967296 < start {
-        return calls::refused(refusal::OUT_OF_RANGE, s);
-    }
-    if 4294967296 - start < count {
+    if !points::in_range(start, count) {
         return calls::refused(refusal::OUT_OF_RANGE, s);
     }
     let t = state::with_run(s, start, count, 0);

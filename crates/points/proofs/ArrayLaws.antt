@@ -21,8 +21,8 @@ use Rattle.sobol.specs.Stepping.{stepped}
 use Rattle.sobol.proofs.DirectionLaws.{directions-length}
 use Rattle.sobol.proofs.SteppingLaws.{stepped-lt}
 use Rattle.plan.specs.Plan.{Axis, noAxis, ValidAxis, Plan, halton, sobol, Valid}
-use Rattle.points.specs.Point.{axisCount, axisDirections, denominatorOf, numeratorOf, pointOf, pointsFrom}
-use Rattle.points.specs.Arrays.{familyOf, basesArray, directionsIn, directionsArray, directionsAt, numeratorBy, numeratorAt, pointAt, pointsAt, denominatorBy, denominatorAt, Arrays}
+use Rattle.points.specs.Point.{axisCount, axisDirections, denominatorOf, numeratorOf, pointOf}
+use Rattle.points.specs.Arrays.{familyOf, basesArray, directionsIn, directionsArray, directionsAt, numeratorBy, numeratorAt, pointAt, denominatorBy, denominatorAt, Arrays}
 use Rattle.points.proofs.PointLaws.{axis-directions-lt}
 
 -- ---- the direction numbers of several axes
@@ -152,7 +152,7 @@ denominator-at-plan (halton family bases) v i =
 denominator-at-plan (sobol axes) v i = sym (denominator-by-two 2 (replicate 6 0) i refl)
 
 module _ (p : Plan) (v : Valid p) where
-  listed-at-plan : (n : ℕ)
+  pub listed-at-plan : (n : ℕ)
       → listed (numeratorAt (familyOf p) (basesArray p) (directionsArray p) n) (axisCount p) ≡ pointOf p n
   unfolding pointOf
   listed-at-plan n = listed-same _ _ (axisCount p) (numerator-at-plan p v n)
@@ -160,8 +160,3 @@ module _ (p : Plan) (v : Valid p) where
   pub point-at-plan : (n : ℕ) → pointAt (familyOf p) (axisCount p) (basesArray p) (directionsArray p) n ≡ padded 6 (pointOf p n)
   unfolding pointAt
   point-at-plan n = ap (padded 6) (listed-at-plan n)
-
-  pub points-at-plan : (n k : ℕ) → pointsAt (familyOf p) (axisCount p) (basesArray p) (directionsArray p) n k ≡ pointsFrom p n k
-  unfolding pointsAt pointsFrom
-  points-at-plan n zero = refl
-  points-at-plan n (suc k) = ap₂ _++_ (points-at-plan n k) (listed-at-plan (n + k))

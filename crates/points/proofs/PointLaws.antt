@@ -1,11 +1,8 @@
--- The points of a valid plan: how many numbers they have, that each numerator is below its denominator, and that blocks of points join.
--- Assumes nothing.
-use mathlib.Core.Path.{_≡_, sym}
-use mathlib.Core.List.{_++_, append-assoc, append-nil}
-use Prim.Native.Nat.{ℕ, zero, suc, _+_, _*_, _^_, _<_}
-use native.Mathlib.Nat.{add-zero, add-suc, add-assoc, zero-mul, suc-mul}
+-- The points of a valid plan: how many numbers they have, and that each numerator is below its denominator. Assumes nothing.
+use mathlib.Core.Path.{_≡_}
+use Prim.Native.Nat.{ℕ, _^_, _<_}
 use native.Mathlib.Omega.{arith}
-use lib.ListN.{length, getD, length-append}
+use lib.ListN.{length, getD}
 use Rattle.numbers.proofs.DepthLaws.{denominator-lt}
 use Rattle.numbers.proofs.ListedLaws.{listed-length}
 use Rattle.permutation.proofs.FamilyLaws.{image-permutes}
@@ -13,7 +10,7 @@ use Rattle.halton.proofs.AxisLaws.{numerator-below}
 use Rattle.sobol.proofs.DirectionLaws.{directions-lt}
 use Rattle.sobol.proofs.SteppingLaws.{stepped-lt}
 use Rattle.plan.specs.Plan.{Axis, noAxis, ValidAxis, Plan, halton, sobol, Valid, OneToSix}
-use Rattle.points.specs.Point.{axisCount, axisDirections, denominatorOf, numeratorOf, pointOf, pointsFrom}
+use Rattle.points.specs.Point.{axisCount, axisDirections, denominatorOf, numeratorOf, pointOf}
 
 pub axis-count : (p : Plan) → Valid p → OneToSix (axisCount p)
 unfolding Valid axisCount
@@ -39,21 +36,8 @@ numerator-of-lt (sobol axes) v n i h =
     let x = getD axes i noAxis in
     stepped-lt 32 (axisDirections x) (axis-directions-lt x (v .1 .valid i h)) n
 
--- ---- points and blocks
+-- ---- points
 
 pub point-of-length : (p : Plan) (n : ℕ) → length (pointOf p n) ≡ axisCount p
 unfolding pointOf
 point-of-length p n = listed-length (numeratorOf p n) (axisCount p)
-
-pub points-from-length : (p : Plan) (n k : ℕ) → length (pointsFrom p n k) ≡ k * axisCount p
-unfolding pointsFrom
-points-from-length p n zero = sym (zero-mul (axisCount p))
-points-from-length p n (suc k) =
-    rw (length-append, points-from-length p n k, point-of-length, suc-mul)
-
--- a block of j points and then one of k points is a block of j + k
-pub points-from-more : (p : Plan) (n j k : ℕ) → pointsFrom p n (j + k) ≡ pointsFrom p n j ++ pointsFrom p (n + j) k
-unfolding pointsFrom
-points-from-more p n j zero = rw (add-zero, append-nil)
-points-from-more p n j (suc k) =
-    rw (add-suc, ← append-assoc, ← points-from-more p n j k, add-assoc)

@@ -1,6 +1,6 @@
 -- The points of a plan: on each axis exactly van der Corput's, Faure's or Sobol's (01-scope.md, "Points"). Definitions only.
-use mathlib.Core.List.{List, [], _++_}
-use Prim.Native.Nat.{ℕ, zero, suc, _+_, _*_, _/_, _^_}
+use mathlib.Core.List.{List}
+use Prim.Native.Nat.{ℕ, _*_, _/_, _^_}
 use lib.ListN.{length, getD}
 use Rattle.numbers.specs.Depth.{denominator}
 use Rattle.numbers.specs.Listed.{listed}
@@ -31,11 +31,6 @@ numeratorOf (sobol axes) n i = stepped (axisDirections (getD axes i noAxis)) n
 -- the point of index n: one numerator per axis
 unfoldable pub pointOf : Plan → ℕ → List ℕ
 pointOf p n = listed (numeratorOf p n) (axisCount p)
-
--- the points of the indexes n, n + 1, .., n + k - 1, point after point
-unfoldable pub pointsFrom : Plan → ℕ → ℕ → List ℕ
-pointsFrom p n zero = []
-pointsFrom p n (suc k) = pointsFrom p n k ++ pointOf p (n + k)
 
 -- the slot of index n on axis i among so many: the whole part of the axis's fraction × slots
 unfoldable pub slotOf : Plan → ℕ → ℕ → ℕ → ℕ

@@ -3,7 +3,18 @@ ghost use mathlib.Core.Path.{_≡_};
 ghost use mathlib.Core.List.{_++_};
 ghost use Prim.Native.Nat.{_+_, _^_, _<_, _≤_};
 ghost use lib.ListN.{length, take, drop};
+ghost use Rattle.points.specs.Run.{runOf, inRange};
 ghost use Rattle.points.specs.Arrays.{numeratorAt, pointAt, denominatorAt, Arrays};
+
+// Whether a run is permitted: start + count is at most 2^32.
+pub fn in_range(start: u64, count: u64) -> bool
+    ensures { λ r. ⌜ r ≡ inRange (runOf start count) ⌝ }
+{
+    if numbers::INDEXES < start {
+        return false;
+    }
+    count <= numbers::INDEXES - start
+}
 
 // The numerator of index `n` on axis `i`, by a jump.
 pub fn numerator(

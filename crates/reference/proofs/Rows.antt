@@ -2,7 +2,7 @@
 use mathlib.Core.Path.{_≡_, refl}
 use mathlib.Core.List.{map}
 use Rattle.numbers.specs.Gcd.{gcd, gcdIn}
-use Rattle.numbers.specs.Digits.{digit, digitCountIn, digitCount, sum, term, numeratorTo}
+use Rattle.numbers.specs.Digits.{digit, digitCountIn, digitCount, sum, productTo, term, numeratorTo}
 use Rattle.numbers.specs.Depth.{depth, denominator}
 use Rattle.numbers.specs.Listed.{listed}
 use Rattle.permutation.specs.Faure.{evenRule, oddRule, faureIn, faure}
@@ -15,12 +15,13 @@ use Rattle.sobol.specs.Stepping.{stepped}
 use Rattle.bits.specs.Stream.{toBits, ofBits, bitsOf}
 use Rattle.plan.specs.Reading.{refuseIf, field, andThen, sharesFactor, readBases, polynomialOf, isRepeated, readMs, readAxis, readAxes, readBody, readFields, closed, finish, readPlan}
 use Rattle.points.specs.Point.{axisCount, numeratorOf, denominatorOf, slotOf}
-use Rattle.numbers.specs.Count.{count}
+use Rattle.numbers.specs.Count.{count, each}
 use Rattle.numbers.specs.Cut.{belowCut}
 use Rattle.discrepancy.specs.Bound.{factor}
-use Rattle.window.specs.Counting.{insideAxes, isInside, stepInside, insideCount, boundOver, boundOf}
+use Rattle.points.specs.Run.{indexAt, runNumerator}
+use Rattle.window.specs.Counting.{axisInside, stepInside, insideCount, boundOf, cutsOf}
 use Rattle.reference.specs.Table.{windowOver, answerTo, table}
 
 pub rows-hold : map (λ r. answerTo (r .question)) table ≡ map (λ r. r .answer) table
-unfolding windowOver answerTo gcd gcdIn digit digitCountIn digitCount sum term numeratorTo depth denominator listed evenRule oddRule faureIn faure imageOf numerator rightZeroIn rightZero timesX onlyLast isPrimitive mTerms mRule mList scaled directions stepped toBits ofBits bitsOf refuseIf field andThen sharesFactor readBases polynomialOf isRepeated readMs readAxis readAxes readBody readFields closed finish readPlan axisCount numeratorOf denominatorOf slotOf count belowCut factor insideAxes isInside stepInside insideCount boundOver boundOf
+unfolding windowOver answerTo gcd gcdIn digit digitCountIn digitCount sum term numeratorTo depth denominator listed evenRule oddRule faureIn faure imageOf numerator rightZeroIn rightZero timesX onlyLast isPrimitive mTerms mRule mList scaled directions stepped toBits ofBits bitsOf refuseIf field andThen sharesFactor readBases polynomialOf isRepeated readMs readAxis readAxes readBody readFields closed finish readPlan axisCount numeratorOf denominatorOf slotOf count belowCut factor indexAt runNumerator each productTo axisInside stepInside insideCount boundOf cutsOf
 rows-hold = refl

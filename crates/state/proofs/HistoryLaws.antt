@@ -8,27 +8,29 @@ use native.Mathlib.Omega.{arith}
 use Rattle.plan.specs.Plan.{Plan, Valid, spell}
 use Rattle.plan.proofs.SpellingLaws.{spell-below}
 use Rattle.plan.proofs.AcceptLaws.{accepted-iff, read-spelled}
-use Rattle.state.specs.State.{planIn, genuine}
+use Rattle.points.specs.Run.{Run, runOf}
+use Rattle.points.proofs.RunLaws.{is-range}
+use Rattle.state.specs.State.{planIn, runIn, genuine}
 use Rattle.state.specs.History.{Left, read, opened, served, Reachable}
 use Rattle.state.specs.declared.Sampler.{Sampler}
 use Rattle.state.proofs.GenuineLaws.{Permitted, genuine-is, made-genuine}
 
 -- every history leaves a valid plan and a permitted run
-pub left-valid : {p : Plan} {start count taken : ℕ} → Left p start count taken → Valid p
+pub left-valid : {p : Plan} {r : Run} {taken : ℕ} → Left p r taken → Valid p
 left-valid (read bytes p below e) = accepted-iff bytes below p .0 e .0
-left-valid (opened start count h l) = left-valid h
+left-valid (opened r h l) = left-valid h
 left-valid (served k h l) = left-valid h
 
-pub left-permitted : {p : Plan} {start count taken : ℕ} → Left p start count taken → Permitted start count taken
-left-permitted (read bytes p below e) = record { in-range = omega arith; not-past = omega arith }
-left-permitted (opened start count h l) = record { in-range = l; not-past = omega arith }
+pub left-permitted : {p : Plan} {r : Run} {taken : ℕ} → Left p r taken → Permitted r taken
+left-permitted (read bytes p below e) = record { in-range = is-range (runOf 0 0) (omega arith); not-past = omega arith }
+left-permitted (opened r h l) = record { in-range = l; not-past = omega arith }
 left-permitted (served k h l) = let r = left-permitted h in record { in-range = r .in-range; not-past = omega (arith, r .not-past) }
 
 -- and every such plan and run is left by one: read, open, and serve so many points
-pub left-by : (p : Plan) → Valid p → (start count taken : ℕ) → Permitted start count taken → Left p start count taken
-left-by p v start count taken r =
-    subst (Left p start count) (zero-add taken)
-    (served taken (opened start count (read (spell p) p (spell-below p) (read-spelled p v)) (r .in-range)) (omega (arith, r .not-past)))
+pub left-by : (p : Plan) → Valid p → (r : Run) (taken : ℕ) → Permitted r taken → Left p r taken
+left-by p v r taken h =
+    subst (Left p r) (zero-add taken)
+    (served taken (opened r (read (spell p) p (spell-below p) (read-spelled p v)) (h .in-range)) (omega (arith, h .not-past)))
 
 pub genuine-iff : (s : Sampler) → (genuine s ≡ true) ↔ Reachable s
 genuine-iff s = (
@@ -36,11 +38,10 @@ genuine-iff s = (
       let g = genuine-is s e in
       record {
         plan = planIn s;
-        start = s .start;
-        count = s .count;
+        run = runIn s;
         taken = s .taken;
-        history = left-by (planIn s) (g .valid) (s .start) (s .count) (s .taken) (g .run);
+        history = left-by (planIn s) (g .valid) (runIn s) (s .taken) (g .run);
         is = g .is;
       },
-  λ r. ap genuine (r .is) ∙ made-genuine (r .plan) (left-valid (r .history)) (r .start) (r .count) (r .taken) (left-permitted (r .history)),
+  λ r. ap genuine (r .is) ∙ made-genuine (r .plan) (left-valid (r .history)) (r .run) (r .taken) (left-permitted (r .history)),
 )

@@ -17,6 +17,7 @@ use Rattle.plan.specs.Plan.{Axis, noAxis, Plan, halton, sobol, ValidAxes, Valid
 use Rattle.plan.specs.Answer.{polynomialsOf, axisAt, axesOf, planBy, planOf}
 use Rattle.plan.proofs.AnswerLaws.{polynomial-at}
 use Rattle.points.specs.Point.{axisCount, axisDirections}
+use Rattle.points.specs.Run.{Run}
 use Rattle.points.specs.Arrays.{familyOf, basesArray, polynomialsArray, directionsIn, directionsArray, directionsAt}
 use Rattle.points.proofs.ArrayLaws.{directions-in-at}
 use Rattle.state.specs.State.{mAt, msIn, planIn, made}
@@ -73,7 +74,7 @@ module _ (axes : List Axis) (six : length axes ≤ 6) (v : ValidAxes axes) where
   axes-back zero h = refl
   axes-back (suc s) h = ap₂ (λ (l : List Axis) (x : Axis). l ++ x ∷ []) (axes-back s (omega arith)) (axis-back s h) ∙ sym (take-suc axes s noAxis h)
 
-pub plan-in-made : (p : Plan) → Valid p → (start count taken : ℕ) → planIn (made p start count taken) ≡ p
+pub plan-in-made : (p : Plan) → Valid p → (r : Run) (taken : ℕ) → planIn (made p r taken) ≡ p
 unfolding planIn made Valid planOf planBy familyOf axisCount basesArray polynomialsArray directionsArray
-plan-in-made (halton family bases) v start count taken = rw (ne-eqb family 2 (λ e. omega arith)) (ap (halton family) (padded-take 6 bases (length bases) refl))
-plan-in-made (sobol axes) v start count taken = ap sobol (axes-back axes (v .0 .1) (v .1) (length axes) (omega arith) ∙ take-length axes)
+plan-in-made (halton family bases) v r taken = rw (ne-eqb family 2 (λ e. omega arith)) (ap (halton family) (padded-take 6 bases (length bases) refl))
+plan-in-made (sobol axes) v r taken = ap sobol (axes-back axes (v .0 .1) (v .1) (length axes) (omega arith) ∙ take-length axes)

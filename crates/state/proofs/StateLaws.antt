@@ -12,23 +12,25 @@ use Rattle.plan.specs.Plan.{Plan, halton, sobol, Valid}
 use Rattle.plan.specs.Reading.{accepted}
 use Rattle.plan.specs.Answer.{answerOf, axesOf, planBy, planOf, planAnswered, Accepted}
 use Rattle.plan.specs.declared.PlanRead.{PlanRead}
-use Rattle.points.specs.Point.{axisCount, pointOf, pointsFrom}
+use Rattle.points.specs.Point.{axisCount, pointOf}
+use Rattle.points.specs.Run.{Run, runPoint, runPoints}
 use Rattle.points.specs.Arrays.{familyOf, basesArray, polynomialsArray, directionsIn, directionsArray, pointAt, pointsAt, Arrays}
 use Rattle.points.proofs.PointLaws.{axis-count}
-use Rattle.points.proofs.ArrayLaws.{arrays-of, point-at-plan, points-at-plan}
-use Rattle.state.specs.State.{nextPoint, made, blank, planIn, genuine}
+use Rattle.points.proofs.ArrayLaws.{arrays-of, point-at-plan}
+use Rattle.points.proofs.RunLaws.{run-point, run-points-at-plan}
+use Rattle.state.specs.State.{nextPoint, made, blank, planIn, runIn, genuine}
 use Rattle.state.specs.declared.Sampler.{Sampler}
 use Rattle.state.proofs.GenuineLaws.{Genuine, genuine-is}
 
 -- ---- the next point
 
-pub next-some : (p : Plan) (start count taken : ℕ) → taken < count → padded 6 (pointOf p (start + taken)) ≡ nextPoint p start count taken
+pub next-some : (p : Plan) (r : Run) (taken : ℕ) → taken < r .count → padded 6 (runPoint p r taken) ≡ nextPoint p r taken
 unfolding nextPoint
-next-some p start count taken h = rw (lt-ltb taken count h)
+next-some p r taken h = rw (lt-ltb taken (r .count) h)
 
-pub next-none : (p : Plan) (start count taken : ℕ) → count ≤ taken → replicate 6 0 ≡ nextPoint p start count taken
+pub next-none : (p : Plan) (r : Run) (taken : ℕ) → r .count ≤ taken → replicate 6 0 ≡ nextPoint p r taken
 unfolding nextPoint
-next-none p start count taken h = rw (le-ltb taken count h)
+next-none p r taken h = rw (le-ltb taken (r .count) h)
 
 -- ---- arrays that are a plan's
 
@@ -45,38 +47,43 @@ module _ {p : Plan} {family axes : ℕ} {bases vs : List ℕ} (h : Holds p famil
   pub holds-point : (n : ℕ) → pointAt family axes bases vs n ≡ padded 6 (pointOf p n)
   holds-point n = rw (h .family-is, h .axes-is, h .bases-is, h .directions-is) (point-at-plan p v n)
 
-  pub holds-points : (n k : ℕ) → pointsAt family axes bases vs n k ≡ pointsFrom p n k
-  holds-points n k = rw (h .family-is, h .axes-is, h .bases-is, h .directions-is) (points-at-plan p v n k)
+  -- the points of a run
+  module _ (r : Run) where
+    pub holds-step : (t : ℕ) → pointAt family axes bases vs (r .start + t) ≡ padded 6 (runPoint p r t)
+    holds-step t = holds-point (r .start + t) ∙ ap (padded 6) (sym (run-point p r t))
 
-  pub holds-next : (start count taken : ℕ)
-      → cond (ltb taken count) (pointAt family axes bases vs (start + taken)) (replicate 6 0) ≡ nextPoint p start count taken
-  unfolding nextPoint
-  holds-next start count taken = ap (λ (x : List ℕ). cond (ltb taken count) x (replicate 6 0)) (holds-point (start + taken))
+    pub holds-steps : (t k : ℕ) → pointsAt family axes bases vs (r .start + t) k ≡ runPoints p r t k
+    holds-steps t k = rw (h .family-is, h .axes-is, h .bases-is, h .directions-is) (run-points-at-plan p r v t k)
+
+    pub holds-next : (taken : ℕ)
+        → cond (ltb taken (r .count)) (pointAt family axes bases vs (r .start + taken)) (replicate 6 0) ≡ nextPoint p r taken
+    unfolding nextPoint
+    holds-next taken = ap (λ (x : List ℕ). cond (ltb taken (r .count)) x (replicate 6 0)) (holds-step taken)
 
 -- the state of these arrays
-pub holds-made : {p : Plan} {family axes : ℕ} {bases vs : List ℕ} → Holds p family axes bases vs → (ps x : List ℕ) (start count taken : ℕ)
-    → ps ≡ polynomialsArray p → x ≡ nextPoint p start count taken
+pub holds-made : {p : Plan} {family axes : ℕ} {bases vs : List ℕ} → Holds p family axes bases vs → (ps x : List ℕ) (r : Run) (taken : ℕ)
+    → ps ≡ polynomialsArray p → x ≡ nextPoint p r taken
     → _≡_ {A = Sampler} (record {
       family = family;
       axes = axes;
       bases = bases;
       polynomials = ps;
       directions = vs;
-      start = start;
-      count = count;
+      start = r .start;
+      count = r .count;
       taken = taken;
       numerators = x;
-    }) (made p start count taken)
+    }) (made p r taken)
 unfolding made
-holds-made h ps x start count taken e f =
+holds-made h ps x r taken e f =
     λ j. record {
       family = h .family-is j;
       axes = h .axes-is j;
       bases = h .bases-is j;
       polynomials = e j;
       directions = h .directions-is j;
-      start = start;
-      count = count;
+      start = r .start;
+      count = r .count;
       taken = taken;
       numerators = f j;
     }
@@ -144,7 +151,7 @@ module _ {s : Sampler} (g : Genuine s) where
   unfolding made
   genuine-polynomials = ap (λ (t : Sampler). t .polynomials) (g .is)
 
-  pub genuine-next : s .numerators ≡ nextPoint (planIn s) (s .start) (s .count) (s .taken)
+  pub genuine-next : s .numerators ≡ nextPoint (planIn s) (runIn s) (s .taken)
   unfolding made
   genuine-next = ap (λ (t : Sampler). t .numerators) (g .is)
 
@@ -154,21 +161,22 @@ module _ {s : Sampler} (g : Genuine s) where
   pub genuine-point : (n : ℕ) → pointAt (s .family) (s .axes) (s .bases) (s .directions) n ≡ padded 6 (pointOf (planIn s) n)
   genuine-point = holds-point genuine-holds (g .valid)
 
-  pub genuine-points : (n k : ℕ) → pointsAt (s .family) (s .axes) (s .bases) (s .directions) n k ≡ pointsFrom (planIn s) n k
-  genuine-points = holds-points genuine-holds (g .valid)
+  -- the points of the state's run, from step t on
+  pub genuine-steps : (t k : ℕ) → pointsAt (s .family) (s .axes) (s .bases) (s .directions) (s .start + t) k ≡ runPoints (planIn s) (runIn s) t k
+  genuine-steps = holds-steps genuine-holds (g .valid) (runIn s)
 
   -- where a point is left, the state has it
   pub genuine-current : s .taken < s .count → s .numerators ≡ pointAt (s .family) (s .axes) (s .bases) (s .directions) (s .start + s .taken)
   genuine-current h =
-      genuine-next ∙ sym (next-some (planIn s) (s .start) (s .count) (s .taken) h) ∙ sym (genuine-point (s .start + s .taken))
+      genuine-next ∙ sym (next-some (planIn s) (runIn s) (s .taken) h) ∙ sym (holds-step genuine-holds (g .valid) (runIn s) (s .taken))
 
   -- where another is left, it is the one after
   pub genuine-stepped : s .taken + 1 < s .count
-      → pointAt (s .family) (s .axes) (s .bases) (s .directions) (s .start + s .taken + 1) ≡ nextPoint (planIn s) (s .start) (s .count) (s .taken + 1)
+      → pointAt (s .family) (s .axes) (s .bases) (s .directions) (s .start + s .taken + 1) ≡ nextPoint (planIn s) (runIn s) (s .taken + 1)
   genuine-stepped h =
       let e : s .start + s .taken + 1 ≡ s .start + (s .taken + 1) = omega arith in
-      genuine-point (s .start + s .taken + 1) ∙ ap (λ (n : ℕ). padded 6 (pointOf (planIn s) n)) e
-      ∙ next-some (planIn s) (s .start) (s .count) (s .taken + 1) h
+      ap (pointAt (s .family) (s .axes) (s .bases) (s .directions)) e
+      ∙ holds-step genuine-holds (g .valid) (runIn s) (s .taken + 1) ∙ next-some (planIn s) (runIn s) (s .taken + 1) h
 
 -- the blank state has no axes, and no plan is so
 pub blank-foreign : genuine blank ≡ false

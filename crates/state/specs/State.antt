@@ -8,32 +8,34 @@ use Rattle.numbers.specs.Listed.{listed, padded}
 use Rattle.plan.specs.Plan.{Plan, spell}
 use Rattle.plan.specs.Reading.{Reading, refused, accepted, readPlan}
 use Rattle.plan.specs.Answer.{planOf}
-use Rattle.points.specs.Point.{axisCount, pointOf}
+use Rattle.points.specs.Point.{axisCount}
+use Rattle.points.specs.Run.{Run, runOf, inRange, runPoint}
 use Rattle.points.specs.Arrays.{familyOf, basesArray, polynomialsArray, directionsArray}
 use Rattle.state.specs.declared.Sampler.{Sampler}
 
+-- The kit's `_&&_` computes as soon as it can, so that the laws below could not find its two tests again: this one stays shut.
 unfoldable pub both : Bool → Bool → Bool
 both true b = b
 both false b = false
 
 -- ---- the state of a run
 
--- the point of the run's next index, and zeros where no point is left, 0 on the axes that the plan lacks
-unfoldable pub nextPoint : Plan → ℕ → ℕ → ℕ → List ℕ
-nextPoint p start count taken = cond (ltb taken count) (padded 6 (pointOf p (start + taken))) (replicate 6 0)
+-- the run's next point, and zeros where no point is left, 0 on the axes that the plan lacks
+unfoldable pub nextPoint : Plan → Run → ℕ → List ℕ
+nextPoint p r taken = cond (ltb taken (r .count)) (padded 6 (runPoint p r taken)) (replicate 6 0)
 
 -- the state with this plan and run, so many of whose points are taken
-unfoldable pub made : Plan → ℕ → ℕ → ℕ → Sampler
-made p start count taken = record {
+unfoldable pub made : Plan → Run → ℕ → Sampler
+made p r taken = record {
   family = familyOf p;
   axes = axisCount p;
   bases = basesArray p;
   polynomials = polynomialsArray p;
   directions = directionsArray p;
-  start = start;
-  count = count;
+  start = r .start;
+  count = r .count;
   taken = taken;
-  numerators = nextPoint p start count taken;
+  numerators = nextPoint p r taken;
 }
 
 -- the blank state, all zero
@@ -50,7 +52,7 @@ blank = record {
   numerators = replicate 6 0;
 }
 
--- ---- the plan that a state holds
+-- ---- the plan and the run that a state holds
 
 -- The m at place k, 12 places for each axis, by the direction numbers: v_(j+1) is m_(j+1) × 2^(31-j).
 unfoldable pub mAt : List ℕ → ℕ → ℕ
@@ -62,11 +64,14 @@ msIn vs = listed (mAt vs) 72
 unfoldable pub planIn : Sampler → Plan
 planIn s = planOf (s .family) (s .axes) (s .bases) (s .polynomials) (msIn (s .directions))
 
+abbrev pub runIn : Sampler → Run
+runIn s = runOf (s .start) (s .count)
+
 -- ---- the test
 
--- start + count is at most 2^32, and no more points are taken than there are
-unfoldable pub permitted : ℕ → ℕ → ℕ → Bool
-permitted start count taken = both (leb (start + count) (2 ^ 32)) (leb taken count)
+-- the run is permitted, and no more points are taken than it has
+unfoldable pub permitted : Run → ℕ → Bool
+permitted r taken = both (inRange r) (leb taken (r .count))
 
 unfoldable pub sameWords : List ℕ → List ℕ → Bool
 sameWords [] [] = true
@@ -89,7 +94,7 @@ sameState s t = both (samePlan s t) (sameRun s t)
 unfoldable pub genuineBy : Reading → Sampler → Bool
 genuineBy (refused n) s = false
 genuineBy (accepted p) s =
-    both (permitted (s .start) (s .count) (s .taken)) (sameState s (made p (s .start) (s .count) (s .taken)))
+    both (permitted (runIn s) (s .taken)) (sameState s (made p (runIn s) (s .taken)))
 
 -- A state is genuine if the plan that it holds, spelled and read again, makes the very same state. Any other is foreign (number 15).
 unfoldable pub genuine : Sampler → Bool

@@ -9,7 +9,8 @@ ghost use Rattle.numbers.specs.Listed.{padded};
 ghost use Rattle.plan.specs.Plan.{Valid, sobol};
 ghost use Rattle.plan.specs.Answer.{axesOf, planAnswered, Accepted};
 ghost use Rattle.points.specs.Arrays.{directionsIn, directionsArray, Arrays, pointAt};
-ghost use Rattle.state.specs.State.{planIn, nextPoint, made, blank, genuine};
+ghost use Rattle.points.specs.Run.{runOf, inRange};
+ghost use Rattle.state.specs.State.{planIn, runIn, nextPoint, made, blank, genuine};
 
 // A sampler: its plan, its run, and how many of the run's points are taken. `directions` has 32 words for each Sobol axis; `numerators` is
 // the next point, and 0 where none is left. Entries that are not used are 0.
@@ -96,8 +97,8 @@ pub fn next_point(
 
 // The state with a plan that the reader accepted, this run, and so many of its points taken.
 pub fn make(a: PlanRead, start: u64, count: u64, taken: u64) -> Sampler
-    requires { ⌜ Accepted a × (start + count ≤ 2 ^ 32) ⌝ }
-    ensures { λ r. ⌜ r ≡ made (planAnswered a) start count taken ⌝ }
+    requires { ⌜ Accepted a × (inRange (runOf start count) ≡ true) ⌝ }
+    ensures { λ r. ⌜ r ≡ made (planAnswered a) (runOf start count) taken ⌝ }
 {
     let family = a.family;
     let axes = a.axes;
@@ -122,8 +123,8 @@ pub fn make(a: PlanRead, start: u64, count: u64, taken: u64) -> Sampler
 
 // The state with another run, so many of whose points are taken.
 pub fn with_run(s: Sampler, start: u64, count: u64, taken: u64) -> Sampler
-    requires { ⌜ (genuine s ≡ true) × (start + count ≤ 2 ^ 32) ⌝ }
-    ensures { λ r. ⌜ r ≡ made (planIn s) start count taken ⌝ }
+    requires { ⌜ (genuine s ≡ true) × (inRange (runOf start count) ≡ true) ⌝ }
+    ensures { λ r. ⌜ r ≡ made (planIn s) (runOf start count) taken ⌝ }
 {
     let bases = s.bases;
     let directions = s.directions;
@@ -139,7 +140,7 @@ pub fn with_run(s: Sampler, start: u64, count: u64, taken: u64) -> Sampler
 // The point after the state's next one, by a step, and zeros where none is left.
 fn stepped_point(s: Sampler) -> [u64; 6]
     requires { ⌜ (genuine s ≡ true) × (s .taken < s .count) ⌝ }
-    ensures { λ r. ⌜ r ≡ nextPoint (planIn s) (s .start) (s .count) (s .taken + 1) ⌝ }
+    ensures { λ r. ⌜ r ≡ nextPoint (planIn s) (runIn s) (s .taken + 1) ⌝ }
 {
     if s.count <= s.taken + 1 {
         return [0; 6];
@@ -153,7 +154,7 @@ fn stepped_point(s: Sampler) -> [u64; 6]
 // The state with one point more taken.
 pub fn advanced(s: Sampler) -> Sampler
     requires { ⌜ (genuine s ≡ true) × (s .taken < s .count) ⌝ }
-    ensures { λ r. ⌜ r ≡ made (planIn s) (s .start) (s .count) (s .taken + 1) ⌝ }
+    ensures { λ r. ⌜ r ≡ made (planIn s) (runIn s) (s .taken + 1) ⌝ }
 {
     let numerators = stepped_point(s);
     let mut t = s;

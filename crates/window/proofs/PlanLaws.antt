@@ -1,37 +1,66 @@
 -- The walk over a plan's arrays counts the plan's points, and the bound by them is the plan's. Assumes nothing.
-use mathlib.Core.Path.{_≡_, refl}
-use mathlib.Core.List.{List}
-use Prim.Native.Nat.{ℕ, zero, suc, _+_, _≤_}
-use native.Mathlib.Nat.{le-refl}
+use mathlib.Core.Path.{_≡_, refl, sym, ap, _∙_}
+use mathlib.Core.Logic.{⊎-elim}
+use mathlib.Core.List.{List, [], _∷_, _++_}
+use Prim.Native.Nat.{ℕ, zero, suc, _+_, _<_, _≤_}
+use native.Mathlib.Nat.{add-zero, le-of-suc-le-suc, eq-or-lt-of-le}
 use native.Mathlib.Omega.{arith}
 use lib.Dec.{eqb}
-use lib.ListN.{length}
+use lib.ListN.{length, getD, length-append, List·getD-append}
+use lib.Seq.{getD-append-add}
 use borrow.Author.Tests.{ne-eqb}
-use Rattle.numbers.specs.Count.{count}
+use Rattle.numbers.specs.Count.{count, each}
+use Rattle.numbers.specs.Digits.{productTo}
 use Rattle.numbers.specs.Listed.{padded}
 use Rattle.numbers.proofs.CountLaws.{count-ext}
+use Rattle.numbers.proofs.EachLaws.{each-ext}
 use Rattle.numbers.proofs.ListedLaws.{padded-at}
+use Rattle.discrepancy.specs.Bound.{bound}
 use Rattle.plan.specs.Plan.{Plan, halton, sobol, Valid}
 use Rattle.points.specs.Point.{axisCount}
+use Rattle.points.specs.Run.{Run, indexAt, runNumerator}
 use Rattle.points.specs.Arrays.{familyOf, basesArray, directionsArray}
 use Rattle.points.proofs.ArrayLaws.{numerator-at-plan, denominator-at-plan}
-use Rattle.window.specs.Counting.{insideAxes, isInside, stepInside, insideCount, boundOver, boundOf}
-use Rattle.window.specs.Walking.{insideBy, insideFrom, boundBy}
+use Rattle.window.specs.Counting.{Cut, noCut, axisInside, stepInside, insideCount, baseAt, boundOf, cutAt, cutsOf}
+use Rattle.window.specs.Walking.{axisInsideBy, insideFrom, boundBy}
 
-module _ (p : Plan) (v : Valid p) (w : List ℕ) where
-  inside-plan : (n s : ℕ) → s ≤ axisCount p → insideBy (familyOf p) (basesArray p) (directionsArray p) w n s ≡ insideAxes p w n s
-  unfolding insideBy insideAxes
-  inside-plan n zero l = refl
-  inside-plan n (suc s) l = rw (inside-plan n s (omega arith), numerator-at-plan p v n s l, denominator-at-plan p v s) refl
+-- ---- the cuts of a list of numbers
 
-  count-plan : (n k : ℕ) → count (insideFrom (familyOf p) (basesArray p) (directionsArray p) w (axisCount p) n) k ≡ insideCount p w n k
-  unfolding insideCount stepInside isInside insideFrom
-  count-plan n k =
-      count-ext (insideFrom (familyOf p) (basesArray p) (directionsArray p) w (axisCount p) n) (stepInside p w n) k
-      (λ t l. inside-plan (n + t) (axisCount p) (le-refl (axisCount p)))
+cuts-length : (w : List ℕ) (s : ℕ) → length (cutsOf w s) ≡ s
+unfolding cutsOf
+cuts-length w zero = refl
+cuts-length w (suc s) = rw (length-append, cuts-length w s) (omega arith)
 
-bound-padded : (bases : List ℕ) (N s : ℕ) → boundOver (padded 6 bases) N s ≡ boundOver bases N s
-unfolding boundOver
+pub cuts-at : (w : List ℕ) (s i : ℕ) → i < s → getD (cutsOf w s) i noCut ≡ cutAt w i
+unfolding cutsOf
+cuts-at w zero i h = absurd (omega arith)
+cuts-at w (suc s) i h =
+    ⊎-elim
+    (λ (e : i ≡ s).
+    let k : i ≡ length (cutsOf w s) + 0 = e ∙ sym (add-zero s ∙ refl) ∙ ap (λ (n : ℕ). n + 0) (sym (cuts-length w s)) in
+    rw k (getD-append-add (cutsOf w s) (cutAt w s ∷ []) 0 noCut) ∙ ap (cutAt w) (sym e))
+    (λ l. List·getD-append (cutsOf w s) (cutAt w s ∷ []) noCut i (omega (arith, cuts-length w s)) ∙ cuts-at w s i l)
+    (eq-or-lt-of-le (le-of-suc-le-suc h))
+
+-- ---- the walk
+
+module _ (p : Plan) (v : Valid p) (w : List ℕ) (r : Run) where
+  axis-plan : (t i : ℕ) → i < axisCount p
+      → axisInsideBy (familyOf p) (basesArray p) (directionsArray p) w (r .start + t) i ≡ axisInside p (cutsOf w (axisCount p)) r t i
+  unfolding axisInsideBy axisInside runNumerator indexAt
+  axis-plan t i l = rw (cuts-at w (axisCount p) i l, numerator-at-plan p v (r .start + t) i l, denominator-at-plan p v i) refl
+
+  count-plan : count (insideFrom (familyOf p) (basesArray p) (directionsArray p) w (axisCount p) (r .start)) (r .count)
+      ≡ insideCount p (cutsOf w (axisCount p)) r
+  unfolding insideCount stepInside insideFrom
+  count-plan =
+      count-ext (insideFrom (familyOf p) (basesArray p) (directionsArray p) w (axisCount p) (r .start)) (stepInside p (cutsOf w (axisCount p)) r) (r .count)
+      (λ t l. each-ext (axisInsideBy (familyOf p) (basesArray p) (directionsArray p) w (r .start + t)) (axisInside p (cutsOf w (axisCount p)) r t) (axisCount p) (axis-plan t))
+
+-- ---- the bound
+
+bound-padded : (bases : List ℕ) (N s : ℕ) → bound (baseAt (padded 6 bases)) s N ≡ bound (baseAt bases) s N
+unfolding productTo
 bound-padded bases N zero = refl
 bound-padded bases N (suc s) = rw (bound-padded bases N s, padded-at 6 bases s) refl
 
@@ -42,8 +71,9 @@ bound-plan (sobol axes) v N = refl
 
 -- arrays that are a plan's
 module _ (p : Plan) {family axes : ℕ} {bases : List ℕ} (f : family ≡ familyOf p) (a : axes ≡ axisCount p) (b : bases ≡ basesArray p) (v : Valid p) where
-  pub count-held : {vs : List ℕ} → vs ≡ directionsArray p → (w : List ℕ) (n k : ℕ) → count (insideFrom family bases vs w axes n) k ≡ insideCount p w n k
-  count-held d w n k = rw (f, a, b, d) (count-plan p v w n k)
+  pub count-held : {vs : List ℕ} → vs ≡ directionsArray p → (w : List ℕ) (r : Run)
+      → count (insideFrom family bases vs w axes (r .start)) (r .count) ≡ insideCount p (cutsOf w (axisCount p)) r
+  count-held d w r = rw (f, a, b, d) (count-plan p v w r)
 
   pub bound-held : (N : ℕ) → boundBy (eqb family 2) bases N axes ≡ boundOf p N
   bound-held N = rw (f, a, b) (bound-plan p v N)

@@ -9,7 +9,7 @@ ghost use Rattle.window.specs.Walking.{boundBy};
 
 // Whether u / q is a cut that the calls take: q from 1 to 2^24, u from 0 to q.
 fn is_cut(u: u64, q: u64) -> bool
-    ensures { λ r. ⌜ r ≡ isCut u q ⌝ }
+    ensures { λ r. ⌜ r ≡ isCut (record { u = u; q = q }) ⌝ }
 {
     if q < 1 {
         return false;

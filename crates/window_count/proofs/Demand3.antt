@@ -1,70 +1,123 @@
 -- Demand 3 about the call's own answer: what the window count answers after any accepted calls, and how near that is to the window's share.
 -- Assumes nothing.
-use mathlib.Core.Path.{_≡_, refl}
+use mathlib.Core.Path.{_≡_, refl, sym, ap, _∙_, subst}
 use mathlib.Core.Bool.{true}
 use mathlib.Core.List.{List}
-use Prim.Native.Nat.{ℕ, _+_, _^_, _≤_}
+use Prim.Native.Nat.{ℕ, _+_, _≤_}
+use native.Mathlib.Omega.{arith}
 use lib.ListN.{length}
+use Rattle.numbers.specs.Digits.{productTo}
 use Rattle.bits.specs.Stream.{AllBelow}
 use Rattle.discrepancy.specs.Bound.{Near}
-use Rattle.plan.specs.Plan.{Plan, halton}
-use Rattle.plan.specs.Reading.{accepted, readPlan}
+use Rattle.plan.specs.Plan.{Plan, halton, sobol, Valid, spell}
 use Rattle.points.specs.Point.{axisCount}
-use Rattle.state.specs.State.{made}
+use Rattle.points.specs.Run.{Run, inRange}
+use Rattle.points.specs.Arrays.{familyOf}
+use Rattle.state.specs.State.{made, planIn, runIn}
 use Rattle.state.specs.History.{Left, read, opened, served}
+use Rattle.state.specs.declared.Sampler.{Sampler}
 use Rattle.state.proofs.PlanLaws.{plan-in-made}
-use Rattle.state.proofs.GenuineLaws.{made-genuine}
-use Rattle.state.proofs.HistoryLaws.{left-valid, left-permitted}
-use Rattle.window.specs.Counting.{insideCount, uProduct, qProduct, boundOf, Cuts, isWindow}
+use Rattle.state.proofs.GenuineLaws.{genuine-is, made-genuine}
+use Rattle.state.proofs.StateLaws.{genuine-holds}
+use Rattle.state.proofs.HistoryLaws.{left-valid, left-permitted, left-by}
+use Rattle.calls.specs.Calls.{readSpec, openSpec}
+use Rattle.calls.specs.History.{Request, stateAfter, AllRoom, read}
+use Rattle.calls.proofs.HistoryLaws.{after-leaves, open-accepted}
+use Rattle.calls.proofs.ServingLaws.{requests-serve}
+use Rattle.window.specs.Counting.{Cut, uOf, qOf, insideCount, boundOf, Cuts, cutsOf, isWindow}
 use Rattle.window.proofs.Demand3.{demand-3}
 use Rattle.window.proofs.RangeLaws.{window-cuts}
 use Rattle.window_count.specs.Call.{counted, countSpec}
-use Rattle.window_count.specs.Opening.{lastStart, lastCount}
-use Rattle.window_count.proofs.CaseLaws.{count-done}
+use Rattle.window_count.specs.Opening.{lastRun}
+use Rattle.window_count.proofs.CaseLaws.{count-accepted, count-done}
 
-module _ {p : Plan} {start N taken : ℕ} (h : Left p start N taken) (w : List ℕ) (takes : isWindow w (axisCount p) ≡ true) where
-  -- After any accepted calls, whatever has been stepped, the count answers S and the bound of the run.
-  pub count-left : countSpec (made p start N taken) w ≡ counted 0 (insideCount p w start N) (boundOf p N)
+-- ---- after any accepted calls
+
+module _ {p : Plan} {r : Run} {taken : ℕ} (h : Left p r taken) (w : List ℕ) (takes : isWindow w (axisCount p) ≡ true) where
+  -- whatever has been stepped, the count answers S and the bound of the run
+  pub count-left : countSpec (made p r taken) w ≡ counted 0 (insideCount p (cutsOf w (axisCount p)) r) (boundOf p (r .count))
   unfolding made
   count-left =
-      rw (plan-in-made p (left-valid h) start N taken) at
-      (count-done (made p start N taken) w (made-genuine p (left-valid h) start N taken (left-permitted h)) takes)
+      rw (plan-in-made p (left-valid h) r taken) at
+      (count-done (made p r taken) w (made-genuine p (left-valid h) r taken (left-permitted h)) takes)
 
-last-start : {p : Plan} {start N taken : ℕ} (h : Left p start N taken) → lastStart h ≡ start
-unfolding lastStart
-last-start (read bytes p below e) = refl
-last-start (opened start count h l) = refl
-last-start (served k h l) = last-start h
+last-run : {p : Plan} {r : Run} {taken : ℕ} (h : Left p r taken) → lastRun h ≡ r
+unfolding lastRun
+last-run (read bytes p below e) = refl
+last-run (opened r h l) = refl
+last-run (served k h l) = last-run h
 
-last-count : {p : Plan} {start N taken : ℕ} (h : Left p start N taken) → lastCount h ≡ N
-unfolding lastCount
-last-count (read bytes p below e) = refl
-last-count (opened start count h l) = refl
-last-count (served k h l) = last-count h
+-- that run is what the last accepted opening was given
+pub count-last-opening : {p : Plan} {r : Run} {taken : ℕ} (h : Left p r taken) (w : List ℕ) → isWindow w (axisCount p) ≡ true
+    → countSpec (made p r taken) w ≡ counted 0 (insideCount p (cutsOf w (axisCount p)) (lastRun h)) (boundOf p (lastRun h .count))
+count-last-opening {p} h w takes = rw (last-run h) (count-left h w takes)
 
--- That run is what the last accepted opening was given.
-pub count-last-opening : {p : Plan} {start N taken : ℕ} (h : Left p start N taken) (w : List ℕ) → isWindow w (axisCount p) ≡ true
-    → countSpec (made p start N taken) w ≡ counted 0 (insideCount p w (lastStart h) (lastCount h)) (boundOf p (lastCount h))
-count-last-opening {p} h w takes = rw (last-start h, last-count h) (count-left h w takes)
+-- ---- how near the answer is
 
--- Demand 3 in full. For every accepted Halton-family plan, every permitted run of N points and every cut u / q with q ≥ 1 and 0 ≤ u ≤ q on each
--- axis, the size of S × Q - N × U is less than bound × Q; and for every window that the call takes, after any accepted calls that leave this run,
--- the call answers that S and that bound.
-pub demand-3-answered : (bytes : List ℕ) → AllBelow 256 bytes → (family : ℕ) (bases : List ℕ) → readPlan bytes ≡ accepted (halton family bases)
-    → (start N : ℕ) → start + N ≤ 2 ^ 32
-    → let p = halton family bases in
-    ((w : List ℕ) → Cuts w (length bases) → Near N (insideCount p w start N) (uProduct w (length bases)) (qProduct w (length bases)) (boundOf p N))
-    × ((w : List ℕ) (taken : ℕ) → Left p start N taken → isWindow w (length bases) ≡ true
-    → countSpec (made p start N taken) w ≡ counted 0 (insideCount p w start N) (boundOf p N))
-unfolding axisCount
-demand-3-answered bytes below family bases e start N fits = (
-  λ w cuts. demand-3 family bases w start N (left-valid (read bytes (halton family bases) below e)) fits cuts,
-  λ w taken h takes. count-left h w takes,
-)
+-- a window's U and Q: the products of its u and of its q
+abbrev pub uProduct : List ℕ → ℕ → ℕ
+uProduct w s = productTo (uOf (cutsOf w s)) s
 
--- so the answer itself is near
-pub answer-near : (family : ℕ) (bases : List ℕ) (start N taken : ℕ) (h : Left (halton family bases) start N taken) (w : List ℕ) → isWindow w (length bases) ≡ true
-    → let r = countSpec (made (halton family bases) start N taken) w in Near N (r .inside) (uProduct w (length bases)) (qProduct w (length bases)) (r .bound)
-unfolding axisCount
-answer-near family bases start N taken h w takes =
-    rw (count-left h w takes) (demand-3 family bases w start N (left-valid h) (left-permitted h .in-range) (window-cuts w (length bases) takes))
+abbrev pub qProduct : List ℕ → ℕ → ℕ
+qProduct w s = productTo (qOf (cutsOf w s)) s
+
+-- of a plan with s axes
+pub plan-near : (p : Plan) → (familyOf p ≡ 2 → ⊥) → Valid p → (s : ℕ) → s ≡ axisCount p → (r : Run) → inRange r ≡ true → (w : List ℕ) → isWindow w s ≡ true
+    → Near (r .count) (insideCount p (cutsOf w s) r) (uProduct w s) (qProduct w s) (boundOf p (r .count))
+unfolding familyOf axisCount
+plan-near (halton family bases) f v s e r fits w takes =
+    rw e (demand-3 family bases (cutsOf w (length bases)) r v fits (window-cuts w (length bases) (rw e at takes)))
+plan-near (sobol axes) f v s e r fits w takes = absurd (f refl)
+
+-- Whatever the state and the window: a count with code 0 on a Halton-family plan is near, for the numbers in the answer.
+pub answer-near : (s : Sampler) (w : List ℕ) → countSpec s w .code ≡ 0 → (s .family ≡ 2 → ⊥)
+    → Near (s .count) (countSpec s w .inside) (uProduct w (s .axes)) (qProduct w (s .axes)) (countSpec s w .bound)
+answer-near s w z f =
+    let a = count-accepted s w z in
+    let g = genuine-is s (a .0) in
+    let h = genuine-holds g in
+    rw (count-done s w (a .0) (a .1))
+    (plan-near (planIn s) (λ e. f (h .family-is ∙ e)) (g .valid) (s .axes) (h .axes-is) (runIn s) (g .run .in-range) w (a .1))
+
+-- ---- Demand 3 as one theorem about composed calls
+
+module _ (p : Plan) (v : Valid p) (r : Run) (fits : inRange r ≡ true) (taken : ℕ) (few : taken ≤ r .count) {s : Sampler} (is : s ≡ made p r taken)
+    (w : List ℕ) (z : countSpec s w .code ≡ 0) where
+  takes : isWindow w (axisCount p) ≡ true
+  unfolding made
+  takes = count-accepted (made p r taken) w (ap (λ (t : Sampler). countSpec t w .code) (sym is) ∙ z) .1
+
+  answered : countSpec s w ≡ counted 0 (insideCount p (cutsOf w (axisCount p)) r) (boundOf p (r .count))
+  answered =
+      ap (λ (t : Sampler). countSpec t w) is ∙ count-left (left-by p v r taken (record { in-range = fits; not-past = few })) w takes
+
+  composed : (countSpec s w .inside ≡ insideCount p (cutsOf w (axisCount p)) r) × (countSpec s w .bound ≡ boundOf p (r .count))
+      × ((familyOf p ≡ 2 → ⊥) → Near (r .count) (countSpec s w .inside) (uProduct w (axisCount p)) (qProduct w (axisCount p)) (countSpec s w .bound))
+  composed = (
+    ap (λ (a : _). a .inside) answered,
+    ap (λ (a : _). a .bound) answered,
+    λ f. rw answered (plan-near p f v (axisCount p) refl r fits w takes),
+  )
+
+-- Any bytes read with code 0 are the spelling of one valid plan p. Where p is of a Halton family: for every run opened with code 0, any steps and
+-- blocks after it, and every window that the count then takes, the numbers in its answer are S over the whole run and the bound, and S lies within
+-- the bound of the window's share. And that holds of S for every cut u / q, also of those that the call does not take.
+pub demand-3-answered : (bytes : List ℕ) → AllBelow 256 bytes → readSpec bytes .code ≡ 0
+    → (p : Plan) × Valid p × (bytes ≡ spell p)
+    × ((r : Run) → let o = openSpec (readSpec bytes .state) r in o .code ≡ 0 → (requests : List Request) → AllRoom (axisCount p) requests
+    → (w : List ℕ) → let a = countSpec (stateAfter requests (o .state)) w in a .code ≡ 0
+    → (a .inside ≡ insideCount p (cutsOf w (axisCount p)) r) × (a .bound ≡ boundOf p (r .count))
+    × ((familyOf p ≡ 2 → ⊥) → Near (r .count) (a .inside) (uProduct w (axisCount p)) (qProduct w (axisCount p)) (a .bound)))
+    × ((family : ℕ) (bases : List ℕ) → p ≡ halton family bases → (r : Run) → inRange r ≡ true → (w : List Cut) → Cuts w (length bases)
+    → Near (r .count) (insideCount p w r) (productTo (uOf w) (length bases)) (productTo (qOf w) (length bases)) (boundOf p (r .count)))
+demand-3-answered bytes below z =
+    let l = after-leaves (read below z) in (
+      l .plan,
+      l .valid,
+      l .spelled,
+      λ r e requests room w c.
+          let o = open-accepted l r e in
+          let s = requests-serve (l .plan) (l .valid) r (o .0) requests room 0 (omega arith) .0 in
+          composed (l .plan) (l .valid) r (o .0) (0 + s .many) (s .within) (ap (stateAfter requests) (o .1) ∙ s .state-is) w c,
+      λ family bases e r fits w cuts. rw e (demand-3 family bases w r (subst Valid e (l .valid)) fits cuts),
+    )

@@ -1,18 +1,23 @@
 -- What the window count answers, for all inputs (01-scope.md, "Runs and windows" and "When a call is turned down"). Definitions only.
-use mathlib.Core.Bool.{cond}
-use mathlib.Core.List.{List}
+use mathlib.Core.Bool.{not}
+use mathlib.Core.List.{List, [], _∷_}
 use Prim.Native.Nat.{ℕ}
-use Rattle.state.specs.State.{planIn, genuine}
+use Rattle.plan.specs.Order.{Condition, _when_, firstDue, unlessDue}
+use Rattle.state.specs.State.{planIn, runIn}
 use Rattle.state.specs.declared.Sampler.{Sampler}
-use Rattle.window.specs.Counting.{insideCount, boundOf, isWindow}
+use Rattle.calls.specs.Calls.{foreign}
+use Rattle.window.specs.Counting.{insideCount, boundOf, cutsOf, isWindow}
 use Rattle.window_count.specs.declared.Counted.{Counted}
 
 abbrev pub counted : ℕ → ℕ → ℕ → Counted
 counted n inside bound = record { code = n; inside = inside; bound = bound }
 
--- 15, 14; else S over the whole opened run, whatever is taken, and the bound
+-- 14, window: u or q outside its range, or not one u and one q per axis
+abbrev pub countRefusals : Sampler → List ℕ → List Condition
+countRefusals s w = 15 when foreign s ∷ 14 when not (isWindow w (s .axes)) ∷ []
+
+-- S over the whole opened run, whatever is taken, and the bound
 unfoldable pub countSpec : Sampler → List ℕ → Counted
 countSpec s w =
-    cond (genuine s)
-    (cond (isWindow w (s .axes)) (counted 0 (insideCount (planIn s) w (s .start) (s .count)) (boundOf (planIn s) (s .count))) (counted 14 0 0))
-    (counted 15 0 0)
+    counted (firstDue (countRefusals s w)) (unlessDue (countRefusals s w) (insideCount (planIn s) (cutsOf w (s .axes)) (runIn s)) 0)
+    (unlessDue (countRefusals s w) (boundOf (planIn s) (s .count)) 0)

@@ -2,14 +2,10 @@
 -- windows"). Definitions only.
 use Prim.Native.Nat.{ℕ}
 use Rattle.plan.specs.Plan.{Plan}
+use Rattle.points.specs.Run.{Run, runOf}
 use Rattle.state.specs.History.{Left, read, opened, served}
 
-unfoldable pub lastStart : {p : Plan} {start count taken : ℕ} → Left p start count taken → ℕ
-lastStart (read bytes p below e) = 0
-lastStart (opened start count h l) = start
-lastStart (served k h l) = lastStart h
-
-unfoldable pub lastCount : {p : Plan} {start count taken : ℕ} → Left p start count taken → ℕ
-lastCount (read bytes p below e) = 0
-lastCount (opened start count h l) = count
-lastCount (served k h l) = lastCount h
+unfoldable pub lastRun : {p : Plan} {r : Run} {taken : ℕ} → Left p r taken → Run
+lastRun (read bytes p below e) = runOf 0 0
+lastRun (opened r h l) = r
+lastRun (served k h l) = lastRun h

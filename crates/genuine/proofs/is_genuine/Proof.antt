@@ -11,7 +11,7 @@ use lib.Seq.{length-take-le}
 use Rattle.plan.specs.Plan.{spell}
 use Rattle.plan.specs.Reading.{readPlan}
 use Rattle.plan.specs.Answer.{answerOf}
-use Rattle.state.specs.State.{msIn, planIn, permitted}
+use Rattle.state.specs.State.{msIn, planIn, runIn, permitted}
 use Rattle.state.specs.declared.Sampler.{Sampler}
 use Rattle.state.proofs.GenuineLaws.{permitted-is}
 use Rattle.writer.specs.Parts.{Written}
@@ -104,14 +104,14 @@ returns-4 c =
     let p = c .before .is-permitted in
     not-permitted (given r) (r .read-plan .result) (read r) (omega arith) (sym (p .ensures) ∙ not-true (p .result) (c .if4 .taken))
 
-run : (c : tie.Else4) → let s = given (c .before .before .before .before) in permitted (s .start) (s .count) (s .taken) ≡ true
+run : (c : tie.Else4) → let s = given (c .before .before .before .before) in permitted (runIn s) (s .taken) ≡ true
 run c = let p = c .before .is-permitted in sym (p .ensures) ∙ not-false (p .result) (c .if4 .left)
 
 make-requires : tie.Need-make-requires
 make-requires c κs =
     let r = c .before .before .before .before in
     let s = given r in
-    (reading-accepted s (r .read-plan .result) (read r) (omega arith), permitted-is (s .start) (s .count) (s .taken) (run c) .in-range)
+    (reading-accepted s (r .read-plan .result) (read r) (omega arith), permitted-is (runIn s) (s .taken) (run c) .in-range)
 
 same-plan-requires : tie.Need-same-plan-requires
 same-plan-requires c κs = search needs

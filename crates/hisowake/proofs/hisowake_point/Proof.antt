@@ -10,7 +10,8 @@ use Rattle.plan.specs.Answer.{planAnswered, Accepted}
 use Rattle.plan.proofs.AnswerLaws.{read-refused}
 use Rattle.points.specs.Point.{axisCount}
 use Rattle.state.proofs.StateLaws.{accepted-few}
-use Rattle.c_refusals.specs.Refusals.{pointRefusal}
+use Rattle.plan.specs.Order.{firstDue}
+use Rattle.c_refusals.specs.Refusals.{pointRefusals}
 use Rattle.c_refusals.proofs.RefusalLaws.{point-zero}
 use Rattle.hisowake.proofs.CallLaws.{answer-accepted, accepted-axes, point-refused, point-turned, point-done}
 use Rattle.hisowake.proofs.hisowake_point.Statement.{statement}
@@ -28,10 +29,10 @@ known c =
 tested : (c : tie.After-point-refusal)
     → let r = c .before .before .before in
     let a = r .before .before .before .args in
-    c .point-refusal .result ≡ pointRefusal (a .index) (axisCount (planAnswered (r .read-plan .result))) (length (a .out .now))
+    c .point-refusal .result ≡ firstDue (pointRefusals (a .index) (axisCount (planAnswered (r .read-plan .result))) (length (a .out .now)))
 tested c =
     let a = c .before .before .before .before .before .before .args in
-    c .point-refusal .ensures ∙ ap (λ (s : ℕ). pointRefusal (a .index) s (length (a .out .now))) (accepted-axes (known (c .before) .1))
+    c .point-refusal .ensures ∙ ap (λ (s : ℕ). firstDue (pointRefusals (a .index) s (length (a .out .now)))) (accepted-axes (known (c .before) .1))
 
 passed : (c : tie.Else2) → c .before .point-refusal .result ≡ 0
 passed c = omega arith
@@ -56,7 +57,8 @@ returns-2 c =
 put-point-requires : tie.Need-put-point-requires
 put-point-requires c κs =
     let r = c .before .before in
-    let z = point-zero _ _ _ (sym (r .point-refusal .ensures) ∙ passed (c .before)) in
+    let a = r .before .before .before .before .before .before .args in
+    let z = point-zero (a .index) (r .before .before .before .read-plan .result .axes) (length (a .out .now)) (sym (r .point-refusal .ensures) ∙ passed (c .before)) in
     (known (r .before) .1, omega (arith, z .0), omega (arith, z .1))
 
 same-length : tie.Need-same-length

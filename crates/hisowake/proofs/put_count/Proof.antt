@@ -6,6 +6,8 @@ use native.Mathlib.Omega.{arith}
 use borrow.Author.Needs.{needs}
 use lib.ListN.{length, take}
 use Rattle.plan.specs.Answer.{planAnswered}
+use Rattle.points.specs.Run.{runOf}
+use Rattle.points.proofs.RunLaws.{range-is}
 use Rattle.state.proofs.StateLaws.{Holds, holds-arrays, accepted-holds, accepted-few}
 use Rattle.window.specs.Walking.{Room}
 use Rattle.window.proofs.RangeLaws.{window-room}
@@ -53,7 +55,7 @@ count-inside-requires c κs =
     let s = c .before .before .before .before .before .before .before .before in
     let n = c .before .before .before in (
       holds-arrays (held (n .before)) (s .pre .0 .valid),
-      s .pre .1,
+      range-is (runOf (s .args .start) (s .args .count)) (s .pre .1),
       subst (λ (w : List ℕ). Room w (s .args .a .axes)) (sym (numbers n)) (window-room _ _ (window-bytes _ _ (s .pre .2) .1)),
     )
 
@@ -66,7 +68,7 @@ slice-aggregate-bound-2 c = search needs
 bound-requires : tie.Need-bound-requires
 bound-requires c κs =
     let s = c .before .before .before .before .before .before .before .before .before .before .before in
-    (holds-arrays (held (c .before .before .before .before .before .before .before)) (s .pre .0 .valid), omega arith)
+    (holds-arrays (held (c .before .before .before .before .before .before .before)) (s .pre .0 .valid), omega (arith, range-is (runOf (s .args .start) (s .args .count)) (s .pre .1)))
 
 slice-aggregate-put-words : tie.Need-slice-aggregate-put-words
 slice-aggregate-put-words c = search needs
@@ -81,7 +83,7 @@ returns : tie.Need-returns
 returns c =
     let s = c .before .before .before .before .before .before .before .before .before .before .before .before .before .before .before .before .before in
     let n = c .before .before .before .before .before .before .before .before .before .before .before .before in
-    count-put (held (n .before)) (s .pre .0 .valid) (s .args .start) (s .args .count) (s .args .window .now) (s .args .out .now) _ _ _ _ (numbers n) (c .before .before .before .before .before .before .before .before .count-inside .ensures) (c .before .before .before .before .before .bound .ensures) (c .before .before .put-words .ensures)
+    count-put (held (n .before)) (s .pre .0 .valid) (runOf (s .args .start) (s .args .count)) (s .args .window .now) (s .args .out .now) _ _ _ _ (numbers n) (c .before .before .before .before .before .before .before .before .count-inside .ensures) (c .before .before .before .before .before .bound .ensures) (c .before .before .put-words .ensures)
 
 pub put-count-spec : {M : Type 1} → statement M
 put-count-spec =

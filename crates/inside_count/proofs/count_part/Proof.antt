@@ -5,7 +5,7 @@ use native.Mathlib.Omega.{arith}
 use borrow.Author.Needs.{needs}
 use lib.ListN.{length}
 use Rattle.points.proofs.ArrayLaws.{denominator-at-lt}
-use Rattle.window.specs.Counting.{uOf, qOf}
+use Rattle.window.specs.Counting.{cutAt}
 use Rattle.window.specs.Walking.{insideFrom}
 use Rattle.inside_count.specs.Flagging.{cutLimit, Flags}
 use Rattle.inside_count.proofs.FlagLaws.{flags-none, flags-more}
@@ -81,7 +81,7 @@ loop-again c =
     let k = c .before .mark-axis .ensures in (
       omega arith,
       flags-more (a .family) (a .bases .now) (a .directions .now) (a .w .now) (a .n) (l .i) (a .m) _ _ _ (l .inv .1) k
-          (c .before .before .before .cut-limit .ensures ∙ ap (cutLimit (uOf (a .w .now) (l .i)) (qOf (a .w .now) (l .i))) d) (s .pre .3 .q-pos (l .i) (omega arith)),
+          (c .before .before .before .cut-limit .ensures ∙ ap (cutLimit (cutAt (a .w .now) (l .i) .u) (cutAt (a .w .now) (l .i) .q)) d) (s .pre .3 .q-pos (l .i) (omega arith)),
       k .same-length ∙ l .inv .2,
     )
 

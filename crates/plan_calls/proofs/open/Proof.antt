@@ -1,7 +1,7 @@
 -- One case law a return; the state opened is the one made of the same plan. Assumes nothing.
 use mathlib.Core.Path.{_≡_, sym, ap, _∙_}
 use mathlib.Core.Bool.{true, false}
-use native.Mathlib.Omega.{arith}
+use Rattle.points.specs.Run.{runOf, inRange}
 use Rattle.state.specs.State.{genuine}
 use Rattle.calls.specs.Calls.{moved}
 use Rattle.calls.proofs.CaseLaws.{foreign-of, known-of, open-foreign, open-out, open-done}
@@ -23,23 +23,25 @@ refused-requires c κs = tt
 refused-requires-2 : tie.Need-refused-requires-2
 refused-requires-2 c κs = tt
 
-refused-requires-3 : tie.Need-refused-requires-3
-refused-requires-3 c κs = tt
+in-range-requires : tie.Need-in-range-requires
+in-range-requires c κs = tt
+
+range : (c : tie.Else2) → let a = c .before .before .before .before .args in inRange (runOf (a .start) (a .count)) ≡ true
+range c = known-of _ _ (c .before .in-range .ensures) (c .if2 .left)
 
 returns : tie.Need-returns
-returns c = c .refused .ensures ∙ sym (open-foreign _ _ _ (foreign (c .before)))
+returns c = c .refused .ensures ∙ sym (open-foreign _ _ (foreign (c .before)))
 
 returns-2 : tie.Need-returns-2
-returns-2 c = c .refused2 .ensures ∙ sym (open-out _ _ _ (known (c .before .before)) (omega arith))
-
-returns-3 : tie.Need-returns-3
-returns-3 c = c .refused3 .ensures ∙ sym (open-out _ _ _ (known (c .before .before .before)) (omega arith))
+returns-2 c =
+    let r = c .before .before .in-range in
+    c .refused2 .ensures ∙ sym (open-out _ _ (known (c .before .before .before)) (foreign-of _ _ (r .ensures) (c .before .if2 .taken)))
 
 with-run-requires : tie.Need-with-run-requires
-with-run-requires c κs = (known (c .before .before), omega arith)
+with-run-requires c κs = (known (c .before .before), range c)
 
-returns-4 : tie.Need-returns-4
-returns-4 c = ap (moved 0) (c .with-run .ensures) ∙ sym (open-done _ _ _ (known (c .before .before .before)) (omega arith))
+returns-3 : tie.Need-returns-3
+returns-3 c = ap (moved 0) (c .with-run .ensures) ∙ sym (open-done _ _ (known (c .before .before .before)) (range (c .before)))
 
 pub open-spec : {M : Type 1} → statement M
 open-spec =
@@ -48,9 +50,8 @@ open-spec =
     is-genuine-requires
     refused-requires
     returns
+    in-range-requires
     refused-requires-2
     returns-2
-    refused-requires-3
-    returns-3
     with-run-requires
-    returns-4)
+    returns-3)

@@ -4,7 +4,7 @@ use mathlib.Core.Bool.{true, false}
 use Prim.Native.Nat.{_-_}
 use borrow.Author.Needs.{needs}
 use Rattle.state.specs.State.{genuine}
-use Rattle.calls.proofs.CaseLaws.{foreign-of, known-of, write-foreign, write-done}
+use Rattle.calls.proofs.CaseLaws.{foreign-of, known-of, write-foreign, write-as-written}
 use Rattle.plan_calls.proofs.write.Statement.{statement}
 use Rattle.plan_calls.proofs.write.Tie as tie
 
@@ -27,7 +27,7 @@ same-length : tie.Need-same-length
 same-length c = search needs
 
 returns-2 : tie.Need-returns-2
-returns-2 c = write-done _ _ (known (c .before .before .before .before)) _ _ (c .before .before .write-plan .ensures)
+returns-2 c = write-as-written _ _ (known (c .before .before .before .before)) _ _ (c .before .before .write-plan .ensures)
 
 pub write-spec : {M : Type 1} → statement M
 write-spec = tie.close (tie.spec is-genuine-requires returns write-plan-requires same-length returns-2)

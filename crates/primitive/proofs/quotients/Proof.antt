@@ -2,7 +2,7 @@
 use mathlib.Core.Path.{refl}
 use native.Mathlib.Nat.{le-antisymm}
 use lib.Arith.{le-of-le-suc-ne}
-use Rattle.numbers.proofs.EachLaws.{each}
+use Rattle.numbers.specs.Count.{each}
 use Rattle.binary.proofs.OrderLaws.{isDivided, areQuotients, quotients-at}
 use Rattle.primitive.proofs.quotients.Statement.{statement}
 use Rattle.primitive.proofs.quotients.Tie as tie

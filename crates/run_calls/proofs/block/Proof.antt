@@ -6,12 +6,12 @@ use Prim.Native.Nat.{ℕ, _+_, _-_, _*_}
 use native.Mathlib.Omega.{arith}
 use borrow.Author.Needs.{needs}
 use lib.ListN.{drop}
-use Rattle.points.specs.Point.{pointsFrom}
-use Rattle.state.specs.State.{made, planIn, genuine}
+use Rattle.points.specs.Run.{runPoints}
+use Rattle.state.specs.State.{made, planIn, runIn, genuine}
 use Rattle.state.specs.declared.Sampler.{Sampler}
 use Rattle.calls.specs.declared.Blocked.{Blocked}
-use Rattle.calls.proofs.CaseLaws.{foreign-of, known-of, block-foreign, block-spent, block-no-room, block-done}
-use Rattle.calls.proofs.PointLaws.{axes-few, known-arrays, known-run, points-put, block-fits}
+use Rattle.calls.proofs.CaseLaws.{foreign-of, known-of, run-foreign, run-spent, run-no-room, run-clear, block-refused, block-done}
+use Rattle.calls.proofs.PointLaws.{axes-few, known-arrays, known-range, known-run, points-put, block-fits}
 use Rattle.run_calls.proofs.block.Statement.{statement}
 use Rattle.run_calls.proofs.block.Tie as tie
 
@@ -34,15 +34,19 @@ no-block-requires-3 : tie.Need-no-block-requires-3
 no-block-requires-3 c κs = tt
 
 returns : tie.Need-returns
-returns c = let w = block-foreign _ _ (foreign (c .before)) in (c .no-block .ensures ∙ sym (w .0), sym (w .1))
+returns c =
+    let a = c .before .before .before .before .args in
+    let w = block-refused (a .s) (a .out .now) 14 (run-foreign (a .s) (a .out .now) (foreign (c .before))) in (c .no-block .ensures ∙ sym (w .0), sym (w .1))
 
 returns-2 : tie.Need-returns-2
-returns-2 c = let w = block-spent _ _ (known (c .before .before .before)) (omega arith) in (c .no-block2 .ensures ∙ sym (w .0), sym (w .1))
+returns-2 c =
+    let a = c .before .before .before .before .before .before .args in
+    let w = block-refused (a .s) (a .out .now) 11 (run-spent (a .s) (a .out .now) (known (c .before .before .before)) (omega arith)) in (c .no-block2 .ensures ∙ sym (w .0), sym (w .1))
 
 returns-3 : tie.Need-returns-3
 returns-3 c =
     let a = c .before .before .before .before .before .before .before .args in
-    let w = block-no-room (a .s) (a .out .now) (known (c .before .before .before .before)) (omega arith) (omega arith) in
+    let w = block-refused (a .s) (a .out .now) 12 (run-no-room (a .s) (a .out .now) (known (c .before .before .before .before)) (omega arith) (omega arith)) in
     (c .no-block3 .ensures ∙ sym (w .0), sym (w .1))
 
 sub-block-size : tie.Need-sub-block-size
@@ -70,7 +74,7 @@ add-with-run : tie.Need-add-with-run
 add-with-run c = omega (arith, block-fits _ _ _ _ (c .before .before .before .before .before .before .before .before .block-size .ensures) .0, known-run _ (known (c .before .before .before .before .before .before .before .before .before .before .before .before .before .before .before)))
 
 with-run-requires : tie.Need-with-run-requires
-with-run-requires c κs = (known (c .before .before .before .before .before .before .before .before .before .before .before .before .before .before .before), known-run _ (known (c .before .before .before .before .before .before .before .before .before .before .before .before .before .before .before)) .0)
+with-run-requires c κs = (known (c .before .before .before .before .before .before .before .before .before .before .before .before .before .before .before), known-range _ (known (c .before .before .before .before .before .before .before .before .before .before .before .before .before .before .before)))
 
 same-length : tie.Need-same-length
 same-length c = search needs
@@ -84,10 +88,10 @@ returns-4 c =
     let s = c .before .before .before .before .before .before .before .before .before .before .before .before .before .before .before .before in
     let a = s .before .before .before .args in
     let k = c .before .before .before .before .before .before .before .before .before .block-size .ensures in
-    let w = block-done (a .s) (a .out .now) (known s) (omega (arith, c .before .before .before .before .before .before .before .before .before .before .before .before .before .before .if2 .left)) (omega (arith, c .before .before .before .before .before .before .before .before .before .before .before .before .before .if3 .left)) in (
-      answer _ _ _ _ k (c .with-run .ensures ∙ ap (λ (j : ℕ). made (planIn (a .s)) (a .s .start) (a .s .count) (a .s .taken + j)) k) ∙ sym (w .0),
-      points-put (a .s) (known s) (a .out .now) _ _ _ (c .before .before .before .before .fill .ensures)
-          ∙ ap (λ (j : ℕ). pointsFrom (planIn (a .s)) (a .s .start + a .s .taken) j ++ drop (j * a .s .axes) (a .out .now)) k ∙ sym (w .1),
+    let w = block-done (a .s) (a .out .now) (run-clear (a .s) (a .out .now) (known s) (omega (arith, c .before .before .before .before .before .before .before .before .before .before .before .before .before .before .if2 .left)) (omega (arith, c .before .before .before .before .before .before .before .before .before .before .before .before .before .if3 .left))) in (
+      answer _ _ _ _ k (c .with-run .ensures ∙ ap (λ (j : ℕ). made (planIn (a .s)) (runIn (a .s)) (a .s .taken + j)) k) ∙ sym (w .0),
+      points-put (a .s) (known s) (a .out .now) _ (a .s .taken) _ (c .before .before .before .before .fill .ensures)
+          ∙ ap (λ (j : ℕ). runPoints (planIn (a .s)) (runIn (a .s)) (a .s .taken) j ++ drop (j * a .s .axes) (a .out .now)) k ∙ sym (w .1),
     )
 
 pub block-spec : {M : Type 1} → statement M

@@ -5,8 +5,8 @@ use native.Mathlib.Omega.{arith}
 use borrow.Author.Needs.{needs}
 use Rattle.state.specs.State.{genuine}
 use Rattle.calls.specs.Calls.{moved}
-use Rattle.calls.proofs.CaseLaws.{foreign-of, known-of, step-foreign, step-spent, step-no-room, step-done}
-use Rattle.calls.proofs.PointLaws.{axes-few, point-put, known-next}
+use Rattle.calls.proofs.CaseLaws.{foreign-of, known-of, run-foreign, run-spent, run-no-room, run-clear, step-refused, step-done}
+use Rattle.calls.proofs.PointLaws.{axes-few, step-put, known-next}
 use Rattle.run_calls.proofs.step.Statement.{statement}
 use Rattle.run_calls.proofs.step.Tie as tie
 
@@ -29,15 +29,19 @@ refused-requires-3 : tie.Need-refused-requires-3
 refused-requires-3 c κs = tt
 
 returns : tie.Need-returns
-returns c = let w = step-foreign _ _ (foreign (c .before)) in (c .refused .ensures ∙ sym (w .0), sym (w .1))
+returns c =
+    let a = c .before .before .before .before .args in
+    let w = step-refused (a .s) (a .out .now) 14 (run-foreign (a .s) (a .out .now) (foreign (c .before))) in (c .refused .ensures ∙ sym (w .0), sym (w .1))
 
 returns-2 : tie.Need-returns-2
-returns-2 c = let w = step-spent _ _ (known (c .before .before .before)) (omega arith) in (c .refused2 .ensures ∙ sym (w .0), sym (w .1))
+returns-2 c =
+    let a = c .before .before .before .before .before .before .args in
+    let w = step-refused (a .s) (a .out .now) 11 (run-spent (a .s) (a .out .now) (known (c .before .before .before)) (omega arith)) in (c .refused2 .ensures ∙ sym (w .0), sym (w .1))
 
 returns-3 : tie.Need-returns-3
 returns-3 c =
     let a = c .before .before .before .before .before .before .before .args in
-    let w = step-no-room (a .s) (a .out .now) (known (c .before .before .before .before)) (omega arith) (omega arith) in
+    let w = step-refused (a .s) (a .out .now) 12 (run-no-room (a .s) (a .out .now) (known (c .before .before .before .before)) (omega arith) (omega arith)) in
     (c .refused3 .ensures ∙ sym (w .0), sym (w .1))
 
 put-point-requires : tie.Need-put-point-requires
@@ -53,9 +57,9 @@ returns-4 : tie.Need-returns-4
 returns-4 c =
     let s = c .before .before .before .before .before .before .before .before .before in
     let a = s .before .before .before .args in
-    let w = step-done (a .s) (a .out .now) (known s) (omega arith) (omega arith) in (
+    let w = step-done (a .s) (a .out .now) (run-clear (a .s) (a .out .now) (known s) (omega arith) (omega arith)) in (
       ap (moved 0) (c .advanced .ensures) ∙ sym (w .0),
-      point-put (a .s) (known s) (a .out .now) _ _ _ (known-next (a .s) (known s) (omega arith)) (c .before .before .before .put-point .ensures) ∙ sym (w .1),
+      step-put (a .s) (known s) (a .out .now) _ _ (a .s .taken) (known-next (a .s) (known s) (omega arith)) (c .before .before .before .put-point .ensures) ∙ sym (w .1),
     )
 
 pub step-spec : {M : Type 1} → statement M

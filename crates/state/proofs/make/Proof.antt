@@ -2,6 +2,8 @@
 use mathlib.Core.Path.{_∙_}
 use borrow.Author.Needs.{needs}
 use Rattle.plan.specs.Answer.{planAnswered}
+use Rattle.points.specs.Run.{runOf}
+use Rattle.points.proofs.RunLaws.{range-is}
 use Rattle.state.proofs.StateLaws.{Holds, holds-arrays, holds-next, holds-made, accepted-holds, accepted-polynomials}
 use Rattle.state.proofs.make.Statement.{statement}
 use Rattle.state.proofs.make.Tie as tie
@@ -22,15 +24,15 @@ slice-aggregate-next-point-2 c = search needs
 next-point-requires : tie.Need-next-point-requires
 next-point-requires c κs =
     let s = c .before .before .before .before .before in
-    (holds-arrays (held (c .before .before)) (s .pre .0 .valid), s .pre .1)
+    (holds-arrays (held (c .before .before)) (s .pre .0 .valid), range-is (runOf (s .args .start) (s .args .count)) (s .pre .1))
 
 returns : tie.Need-returns
 returns c =
     let s = c .before .before .before .before .before .before in
     let h = held (c .before .before .before) in
     let a = s .args in
-    holds-made h (a .a .polynomials) (c .next-point .result) (a .start) (a .count) (a .taken) (accepted-polynomials (s .pre .0))
-    (c .next-point .ensures ∙ holds-next h (s .pre .0 .valid) (a .start) (a .count) (a .taken))
+    holds-made h (a .a .polynomials) (c .next-point .result) (runOf (a .start) (a .count)) (a .taken) (accepted-polynomials (s .pre .0))
+    (c .next-point .ensures ∙ holds-next h (s .pre .0 .valid) (runOf (a .start) (a .count)) (a .taken))
 
 pub make-spec : {M : Type 1} → statement M
 make-spec =

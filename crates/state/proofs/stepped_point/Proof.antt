@@ -4,8 +4,8 @@ use mathlib.Core.Path.{_∙_}
 use Prim.Native.Nat.{_+_, _^_, _<_}
 use native.Mathlib.Omega.{arith}
 use borrow.Author.Needs.{needs}
-use Rattle.state.specs.State.{planIn}
-use Rattle.state.proofs.GenuineLaws.{genuine-is}
+use Rattle.state.specs.State.{planIn, runIn}
+use Rattle.state.proofs.GenuineLaws.{genuine-is, genuine-range}
 use Rattle.state.proofs.StateLaws.{next-none, genuine-arrays, genuine-current, genuine-stepped}
 use Rattle.state.proofs.stepped_point.Statement.{statement}
 use Rattle.state.proofs.stepped_point.Tie as tie
@@ -16,7 +16,7 @@ add-if1 c = search needs
 returns : tie.Need-returns
 returns c =
     let s = c .before .before .before .args .s in
-    next-none (planIn s) (s .start) (s .count) (s .taken + 1) (omega arith)
+    next-none (planIn s) (runIn s) (s .taken + 1) (omega arith)
 
 slice-aggregate-advance : tie.Need-slice-aggregate-advance
 slice-aggregate-advance c = search needs
@@ -28,7 +28,7 @@ slice-aggregate-advance-2 c = search needs
 fits : (c : tie.After-struct-known3) → let s = c .before .before .before .before .before .before .before .before .before .args .s in s .start + s .taken + 1 < 2 ^ 32
 fits c =
     let k = c .before .before .before .before .before .before .before .before .before in
-    omega (arith, genuine-is (k .args .s) (k .pre .0) .run .in-range)
+    omega (arith, genuine-range (genuine-is (k .args .s) (k .pre .0)))
 
 add-advance : tie.Need-add-advance
 add-advance c = omega (arith, fits c)

@@ -1,15 +1,16 @@
 -- `window::bound` meets its contract: the product of the first i factors. Assumes nothing.
 use native.Mathlib.Omega.{arith}
 use mathlib.Core.Path.{_≡_, sym, ap, ap₂, _∙_}
-use Prim.Native.Nat.{_+_, _-_, _*_, _^_, _≤_, _<_}
+use Prim.Native.Nat.{ℕ, _+_, _-_, _*_, _^_, _≤_, _<_}
 use Rattle.points.proofs.ArrayLaws.{base-range}
-use Rattle.window.specs.Counting.{boundOver}
+use Rattle.discrepancy.specs.Bound.{bound}
+use Rattle.window.specs.Counting.{baseAt}
 use Rattle.window.proofs.RangeLaws.{bound-over-none, bound-over-more, bound-over-fits, bound-sobol, bound-halton}
 use Rattle.window.proofs.bound.Statement.{statement}
 use Rattle.window.proofs.bound.Tie as tie
 
 abbrev Inv-loop : tie.InvT-loop
-Inv-loop family axes bases directions n p₀ i₀ p i = (i ≤ axes) × (p ≡ boundOver bases n i)
+Inv-loop family axes bases directions n p₀ i₀ p i = (i ≤ axes) × (p ≡ bound (baseAt bases) i n)
 
 abbrev μ-loop : tie.MeasureT-loop
 μ-loop family axes bases directions n p₀ i₀ p i = axes - i
@@ -18,7 +19,7 @@ abbrev μ-loop : tie.MeasureT-loop
 next : (c : tie.After-bound-factor Inv-loop μ-loop)
     → let a = c .before .before .before .before .before .before .before .args in
     let l = c .before .before .before .loop in
-    (l .p * c .bound-factor .result ≡ boundOver (a .bases .now) (a .n) (l .i + 1)) × (boundOver (a .bases .now) (a .n) (l .i + 1) < 2 ^ 64)
+    (l .p * c .bound-factor .result ≡ bound (baseAt (a .bases .now)) (l .i + 1) (a .n)) × (bound (baseAt (a .bases .now)) (l .i + 1) (a .n) < 2 ^ 64)
 next c =
     let s = c .before .before .before .before .before .before .before in
     let a = s .args in
@@ -31,7 +32,7 @@ returns : tie.Need-returns Inv-loop μ-loop
 returns c = let a = c .before .before .before .args in bound-sobol (a .family) (a .bases .now) (a .n) (a .axes) (omega arith)
 
 loop-holds : tie.Need-loop-holds Inv-loop μ-loop
-loop-holds c = (omega arith, bound-over-none _ _)
+loop-holds c = let a = c .before .before .before .args in (omega arith, bound-over-none (a .bases .now) (a .n))
 
 mul-bound-factor : tie.Need-mul-bound-factor Inv-loop μ-loop
 mul-bound-factor c = omega (arith, c .before .before .before .before .before .pre .0 .few)
@@ -60,7 +61,7 @@ returns-2 : tie.Need-returns-2 Inv-loop μ-loop
 returns-2 c =
     let a = c .before .before .before .before .before .args in
     let e : c .before .loop .i ≡ a .axes = omega arith in
-    c .before .loop .inv .1 ∙ ap (boundOver (a .bases .now) (a .n)) e ∙ bound-halton (a .family) (a .bases .now) (a .n) (a .axes) (λ e. omega arith)
+    c .before .loop .inv .1 ∙ ap (λ (s : ℕ). bound (baseAt (a .bases .now)) s (a .n)) e ∙ bound-halton (a .family) (a .bases .now) (a .n) (a .axes) (λ e. omega arith)
 
 pub bound-spec : {M : Type 1} → statement M
 bound-spec =

@@ -4,13 +4,15 @@ use mathlib.Core.Path.{_≡_, sym, _∙_, subst}
 use mathlib.Core.Bool.{true}
 use Prim.Native.Nat.{ℕ, _-_, _≤_}
 use borrow.Author.Tests.{not-true, not-false}
-use Rattle.window.specs.Counting.{areCuts}
-use Rattle.window.proofs.RangeLaws.{cuts-none, cuts-more, window-long, window-off, window-is}
+use Rattle.numbers.specs.Count.{each}
+use Rattle.numbers.proofs.EachLaws.{each-none, each-more}
+use Rattle.window.specs.Counting.{isCutAt}
+use Rattle.window.proofs.RangeLaws.{window-long, window-off, window-is}
 use Rattle.window.proofs.is_window.Statement.{statement}
 use Rattle.window.proofs.is_window.Tie as tie
 
 abbrev Inv-loop : tie.InvT-loop
-Inv-loop w axes i₀ i = (i ≤ axes) × (areCuts w i ≡ true)
+Inv-loop w axes i₀ i = (i ≤ axes) × (each (isCutAt w) i ≡ true)
 
 abbrev μ-loop : tie.MeasureT-loop
 μ-loop w axes i₀ i = axes - i
@@ -22,7 +24,7 @@ returns : tie.Need-returns Inv-loop μ-loop
 returns c = sym (window-long _ _ (λ e. omega arith))
 
 loop-holds : tie.Need-loop-holds Inv-loop μ-loop
-loop-holds c = (omega arith, cuts-none _)
+loop-holds c = (omega arith, each-none _)
 
 mul-is-cut : tie.Need-mul-is-cut Inv-loop μ-loop
 mul-is-cut c = omega arith
@@ -58,13 +60,13 @@ loop-less : tie.Need-loop-less Inv-loop μ-loop
 loop-less c = omega arith
 
 loop-again : tie.Need-loop-again Inv-loop μ-loop
-loop-again c = (omega arith, cuts-more _ _ (c .before .before .before .before .before .loop .inv .1) (sym (c .before .is-cut .ensures) ∙ not-false _ (c .if2 .left)))
+loop-again c = (omega arith, each-more _ _ (c .before .before .before .before .before .loop .inv .1) (sym (c .before .is-cut .ensures) ∙ not-false _ (c .if2 .left)))
 
 returns-3 : tie.Need-returns-3 Inv-loop μ-loop
 returns-3 c =
     let a = c .before .before .before .before .args in
     let e : c .before .loop .i ≡ a .axes = omega arith in
-    sym (window-is (a .w .now) (a .axes) (omega arith) (subst (λ (k : ℕ). areCuts (a .w .now) k ≡ true) e (c .before .loop .inv .1)))
+    sym (window-is (a .w .now) (a .axes) (omega arith) (subst (λ (k : ℕ). each (isCutAt (a .w .now)) k ≡ true) e (c .before .loop .inv .1)))
 
 pub is-window-spec : {M : Type 1} → statement M
 is-window-spec =

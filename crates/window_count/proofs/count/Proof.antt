@@ -73,7 +73,7 @@ returns-3 : tie.Need-returns-3
 returns-3 c =
     let s = known (c .before .before .before .before .before .before .before .before .before .before) in
     let a = c .before .before .before .before .before .before .before .before .before .before .before .before .before .args in
-    answer (c .before .before .before .count-inside .ensures ∙ count-walked (a .s) (a .w .now) s (a .s .start) (a .s .count)) (c .bound .ensures ∙ bound-known (a .s) (a .w .now) s (a .s .count))
+    answer (c .before .before .before .count-inside .ensures ∙ count-walked (a .s) (a .w .now) s) (c .bound .ensures ∙ bound-known (a .s) (a .w .now) s (a .s .count))
     ∙ sym (count-done _ _ s (fits (c .before .before .before .before .before .before .before .before)))
 
 pub count-spec : {M : Type 1} → statement M

@@ -8,9 +8,9 @@ use lib.ListN.{length, take}
 use Rattle.window.specs.Counting.{isWindow}
 use Rattle.big_endian.specs.Bytes.{windowIn}
 use Rattle.big_endian.proofs.ByteLaws.{window-length, window-front}
-use Rattle.hisowake.proofs.CountLaws.{bytes-long, bytes-off, bytes-right}
-use Rattle.hisowake.proofs.window_refusal.Statement.{statement}
-use Rattle.hisowake.proofs.window_refusal.Tie as tie
+use Rattle.hisowake.proofs.CountLaws.{bytes-long, bytes-by}
+use Rattle.hisowake.proofs.is_window_bytes.Statement.{statement}
+use Rattle.hisowake.proofs.is_window_bytes.Tie as tie
 
 numbers : (c : tie.After-window-numbers)
     → let a = c .before .before .before .args in take (2 * a .axes) (c .window-numbers .result) ≡ windowIn (a .bytes .now) (a .axes)
@@ -47,21 +47,9 @@ tested c =
     c .is-window .ensures ∙ ap (λ (w : List ℕ). isWindow w (n .before .before .before .args .axes)) (numbers n)
 
 returns-2 : tie.Need-returns-2
-returns-2 c = bytes-right _ _ (omega arith) (sym (tested (c .before)) ∙ c .if2 .taken)
+returns-2 c = tested c ∙ bytes-by _ _ (omega arith)
 
-returns-3 : tie.Need-returns-3
-returns-3 c = bytes-off _ _ (omega arith) (sym (tested (c .before)) ∙ c .if2 .left)
-
-pub window-refusal-spec : {M : Type 1} → statement M
-window-refusal-spec =
+pub is-window-bytes-spec : {M : Type 1} → statement M
+is-window-bytes-spec =
     tie.close
-    (tie.spec
-    mul-if1
-    returns
-    window-numbers-requires
-    mul-end
-    array-share-prefix-w
-    slice-aggregate-is-window
-    is-window-requires
-    returns-2
-    returns-3)
+    (tie.spec mul-if1 returns window-numbers-requires mul-end array-share-prefix-w slice-aggregate-is-window is-window-requires returns-2)

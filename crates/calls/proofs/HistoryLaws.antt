@@ -1,0 +1,170 @@
+-- The history by calls: a state is genuine exactly where accepted calls leave it, and a call answers 15 exactly where none do. Assumes nothing.
+use mathlib.Core.Path.{_≡_, refl, sym, ap, _∙_, subst}
+use mathlib.Core.Bool.{Bool, true, false, not, true≢false}
+use mathlib.Core.Logic.{_↔_}
+use mathlib.Core.List.{List, [], _∷_}
+use Prim.Native.Nat.{ℕ, zero, suc, _+_, _-_, _/_, _≤_, _<_, min}
+use native.Mathlib.Nat.{min-le-left}
+use native.Mathlib.Numerals.{add-one}
+use native.Mathlib.Omega.{arith}
+use lib.ListN.{length, replicate, length-replicate}
+use borrow.Author.Tests.{leb-false, ltb-false, not-true, not-false}
+use Rattle.bits.specs.Stream.{AllBelow}
+use Rattle.plan.specs.Plan.{Plan, Valid, spell}
+use Rattle.plan.specs.Reading.{Reading, refused, accepted, readPlan}
+use Rattle.plan.specs.Order.{Condition, _when_, firstDue}
+use Rattle.plan.proofs.SpellingLaws.{spell-below}
+use Rattle.plan.proofs.AcceptLaws.{accepted-iff, read-spelled}
+use Rattle.plan.proofs.RefusalLaws.{refused-range}
+use Rattle.plan.proofs.OrderLaws.{none-given, none-due, other-due, first-iff}
+use Rattle.points.specs.Point.{axisCount}
+use Rattle.points.specs.Run.{Run, runOf, inRange}
+use Rattle.points.proofs.RunLaws.{is-range}
+use Rattle.state.specs.State.{made, planIn, runIn, genuine}
+use Rattle.state.specs.History.{Reachable}
+use Rattle.state.specs.declared.Sampler.{Sampler}
+use Rattle.state.proofs.GenuineLaws.{Permitted, Genuine, genuine-is, made-genuine}
+use Rattle.state.proofs.PlanLaws.{plan-in-made}
+use Rattle.state.proofs.HistoryLaws.{genuine-iff}
+use Rattle.calls.specs.Calls.{moved, readState, readSpec, foreign, beyond, spent, noPointRoom, writeSpec, openSpec, openRefusals, jumpSpec, runRefusals, stepSpec, blockSize, blockSpec, secondSpec}
+use Rattle.calls.specs.History.{After, read, opened, stepped, filled, AfterCalls}
+use Rattle.calls.proofs.CaseLaws.{open-done, step-done, block-done}
+use Rattle.calls.proofs.RunLaws.{step-at, open-at}
+
+-- ---- accepted calls leave the plan that was read, and a permitted run
+
+pub record Leaves (bytes : List ℕ) (s : Sampler) : Type 0 where
+  pub plan : Plan
+  pub valid : Valid plan
+  pub spelled : bytes ≡ spell plan
+  pub run : Permitted (runIn s) (s .taken)
+  pub is : s ≡ made plan (runIn s) (s .taken)
+
+of-made : {bytes : List ℕ} {s : Sampler} (p : Plan) → Valid p → bytes ≡ spell p → (r : Run) (taken : ℕ) → Permitted r taken → s ≡ made p r taken
+    → Leaves bytes s
+unfolding made
+of-made p v e r taken h is =
+    subst (Leaves _) (sym is) (record { plan = p; valid = v; spelled = e; run = h; is = refl })
+
+module _ {bytes : List ℕ} {s : Sampler} (l : Leaves bytes s) where
+  pub leaves-genuine : genuine s ≡ true
+  leaves-genuine = ap genuine (l .is) ∙ made-genuine (l .plan) (l .valid) (runIn s) (s .taken) (l .run)
+
+  pub leaves-plan : planIn s ≡ l .plan
+  leaves-plan = ap planIn (l .is) ∙ plan-in-made (l .plan) (l .valid) (runIn s) (s .taken)
+
+  -- a state with the same plan
+  next : {t : Sampler} (r : Run) (taken : ℕ) → Permitted r taken → t ≡ made (planIn s) r taken → Leaves bytes t
+  next r taken h e = of-made (l .plan) (l .valid) (l .spelled) r taken h (e ∙ ap (λ (p : Plan). made p r taken) leaves-plan)
+
+  -- an accepted opening
+  pub open-accepted : (r : Run) → openSpec s r .code ≡ 0 → (inRange r ≡ true) × (openSpec s r .state ≡ made (l .plan) r 0)
+  unfolding openSpec
+  open-accepted r z =
+      let range = not-false (inRange r) (none-due 10 (not (inRange r)) [] (none-due 14 (foreign s) _ z .1) .0) in
+      (range, ap (λ (a : _). a .state) (open-done s r leaves-genuine range) ∙ ap (λ (p : Plan). made p r 0) leaves-plan)
+
+read-leaves : (bytes : List ℕ) → AllBelow 256 bytes → readSpec bytes .code ≡ 0 → Leaves bytes (readSpec bytes .state)
+unfolding readSpec readState
+read-leaves bytes below z = go (readPlan bytes) refl
+  where
+    go : (r : Reading) → readPlan bytes ≡ r → Leaves bytes (readState (readPlan bytes) .state)
+    go (refused n) e = absurd (omega (arith, rw e at z, refused-range bytes n e))
+    go (accepted p) e =
+        let a = accepted-iff bytes below p .0 e in
+        of-made p (a .0) (a .1) (runOf 0 0) 0 (record { in-range = is-range (runOf 0 0) (omega arith); not-past = omega arith }) (rw e refl)
+
+pub after-leaves : {bytes : List ℕ} {s : Sampler} → After bytes s → Leaves bytes s
+unfolding openSpec stepSpec blockSpec
+after-leaves (read below z) = read-leaves _ below z
+after-leaves (opened {s} h r z) =
+    let l = after-leaves h in
+    let o = open-accepted l r z in
+    of-made (l .plan) (l .valid) (l .spelled) r 0 (record { in-range = o .0; not-past = omega arith }) (o .1)
+after-leaves (stepped {s} h buf z) =
+    let l = after-leaves h in
+    let left = leb-false (s .count) (s .taken) (none-due 11 (spent s) _ (none-due 14 (foreign s) _ z .1) .0) in
+    next l (runIn s) (s .taken + 1) (record { in-range = l .run .in-range; not-past = omega arith }) (ap (λ (a : _). a .state) (step-done s buf z .0))
+after-leaves (filled {s} h buf z) =
+    let l = after-leaves h in
+    let left = leb-false (s .count) (s .taken) (none-due 11 (spent s) _ (none-due 14 (foreign s) _ z .1) .0) in
+    let few = min-le-left (s .count - s .taken) (length buf / s .axes) in
+    next l (runIn s) (s .taken + blockSize s buf) (record { in-range = l .run .in-range; not-past = omega arith }) (ap (λ (a : _). a .state) (block-done s buf z .0))
+
+-- ---- and every plan and permitted run is left by some: read, open, and step
+
+module _ (p : Plan) (v : Valid p) (r : Run) (fits : inRange r ≡ true) where
+  after-reading : After (spell p) (made p (runOf 0 0) 0)
+  unfolding readSpec readState
+  after-reading =
+      let e : readSpec (spell p) ≡ moved 0 (made p (runOf 0 0) 0) = rw (read-spelled p v) refl in
+      subst (After (spell p)) (ap (λ (a : _). a .state) e) (read (spell-below p) (ap (λ (a : _). a .code) e))
+
+  after-opening : After (spell p) (made p r 0)
+  after-opening =
+      let e = open-at p v (runOf 0 0) (is-range (runOf 0 0) (omega arith)) 0 (omega arith) r fits in
+      subst (After (spell p)) (ap (λ (a : _). a .state) e) (opened after-reading r (ap (λ (a : _). a .code) e))
+
+  pub after-steps : (taken : ℕ) → taken ≤ r .count → After (spell p) (made p r taken)
+  after-steps zero h = after-opening
+  after-steps (suc taken) h =
+      let buf : List ℕ = replicate (axisCount p) 0 in
+      let e = step-at p v r fits buf (omega (arith, length-replicate {A = ℕ} (axisCount p) 0)) taken (omega arith) .0 in
+      subst (After (spell p)) (ap (λ (a : _). a .state) e ∙ ap (made p r) (add-one taken)) (stepped (after-steps taken (omega arith)) buf (ap (λ (a : _). a .code) e))
+
+-- The history by calls is the test's, and the inductive history's.
+pub after-iff : (s : Sampler) → AfterCalls s ↔ (genuine s ≡ true)
+after-iff s = (
+  λ h. leaves-genuine (after-leaves (h .1)),
+  λ e.
+      let g = genuine-is s e in
+      (spell (planIn s), subst (After (spell (planIn s))) (sym (g .is)) (after-steps (planIn s) (g .valid) (runIn s) (g .run .in-range) (s .taken) (g .run .not-past))),
+)
+
+pub after-reachable : (s : Sampler) → AfterCalls s ↔ Reachable s
+after-reachable s = (λ h. genuine-iff s .0 (after-iff s .0 h), λ r. after-iff s .1 (genuine-iff s .1 r))
+
+-- ---- number 15
+
+-- an order that begins with it gives it exactly where no accepted calls leave the state
+pub foreign-iff : (s : Sampler) (order : List Condition) → (firstDue order ≡ 15 → ⊥)
+    → (firstDue (15 when foreign s ∷ order) ≡ 15) ↔ (AfterCalls s → ⊥)
+foreign-iff s order f = (
+  λ e h. true≢false (sym (after-iff s .0 h) ∙ not-true (genuine s) (first-iff 15 (foreign s) order f .0 e)),
+  λ none. first-iff 15 (foreign s) order f .1 (go (genuine s) refl none),
+)
+  where
+    go : (b : Bool) → genuine s ≡ b → (AfterCalls s → ⊥) → not (genuine s) ≡ true
+    go true e none = absurd (none (after-iff s .1 e))
+    go false e none = rw e refl
+
+none-15 : firstDue [] ≡ 15 → ⊥
+none-15 = none-given 15 (λ e. omega arith)
+
+module _ (s : Sampler) where
+  pub write-foreign-iff : (buf : List ℕ) → (writeSpec s buf .code ≡ 15) ↔ (AfterCalls s → ⊥)
+  unfolding writeSpec
+  write-foreign-iff buf = foreign-iff s _ (other-due 13 _ [] 15 (λ e. omega arith) none-15)
+
+  pub open-foreign-iff : (r : Run) → (openSpec s r .code ≡ 15) ↔ (AfterCalls s → ⊥)
+  unfolding openSpec
+  open-foreign-iff r = foreign-iff s _ (other-due 11 _ [] 15 (λ e. omega arith) none-15)
+
+  pub jump-foreign-iff : (n : ℕ) (buf : List ℕ) → (jumpSpec s n buf .code ≡ 15) ↔ (AfterCalls s → ⊥)
+  unfolding jumpSpec
+  jump-foreign-iff n buf = foreign-iff s _ (other-due 11 _ _ 15 (λ e. omega arith) (other-due 13 _ [] 15 (λ e. omega arith) none-15))
+
+  run-foreign-iff : (buf : List ℕ) → (firstDue (runRefusals s buf) ≡ 15) ↔ (AfterCalls s → ⊥)
+  run-foreign-iff buf = foreign-iff s _ (other-due 12 _ _ 15 (λ e. omega arith) (other-due 13 _ [] 15 (λ e. omega arith) none-15))
+
+  pub step-foreign-iff : (buf : List ℕ) → (stepSpec s buf .code ≡ 15) ↔ (AfterCalls s → ⊥)
+  unfolding stepSpec
+  step-foreign-iff buf = run-foreign-iff buf
+
+  pub block-foreign-iff : (buf : List ℕ) → (blockSpec s buf .code ≡ 15) ↔ (AfterCalls s → ⊥)
+  unfolding blockSpec
+  block-foreign-iff buf = run-foreign-iff buf
+
+  pub second-foreign-iff : (n : ℕ) → (secondSpec s n .code ≡ 15) ↔ (AfterCalls s → ⊥)
+  unfolding secondSpec
+  second-foreign-iff n = foreign-iff s _ (other-due 11 _ [] 15 (λ e. omega arith) none-15)

@@ -1,0 +1,28 @@
+-- What demand 2 asks of a run that steps and blocks serve, by the calls' own answers (00-request.md, 2; 01-scope.md, "Runs and windows").
+-- Definitions only.
+use mathlib.Core.Path.{_≡_}
+use mathlib.Core.List.{List}
+use Prim.Native.Nat.{ℕ, _+_, _*_, _≤_, _<_}
+use lib.ListN.{length, take, drop}
+use Rattle.plan.specs.Plan.{Plan}
+use Rattle.points.specs.Point.{axisCount, pointOf}
+use Rattle.points.specs.Run.{Run}
+use Rattle.state.specs.declared.Sampler.{Sampler}
+use Rattle.calls.specs.Calls.{jumpSpec, jumpBuf, stepSpec, stepBuf, blockSpec}
+
+-- So many calls served the run's first points and left the state s.
+pub record ServesRun (p : Plan) (r : Run) (calls : ℕ) (points : List ℕ) (s : Sampler) : Type 0 where
+  pub served : ℕ
+  -- never more points than the run has, and all of them after as many calls
+  pub within : served ≤ r .count
+  pub all : r .count ≤ calls → served ≡ r .count
+  -- point number k is the plan's at index start + k
+  pub long : length points ≡ served * axisCount p
+  pub point : (k : ℕ) → k < served → take (axisCount p) (drop (k * axisCount p) points) ≡ pointOf p (r .start + k)
+  -- a further step with room gives the next one, or 12 (spent) where none is left
+  pub next : (buf : List ℕ) → axisCount p ≤ length buf → served < r .count
+      → (stepSpec s buf .code ≡ 0) × (take (axisCount p) (stepBuf s buf) ≡ pointOf p (r .start + served))
+  pub over : (buf : List ℕ) → axisCount p ≤ length buf → served ≡ r .count → (stepSpec s buf .code ≡ 12) × (blockSpec s buf .code ≡ 12)
+  -- a jump gives the same points
+  pub jump : (buf : List ℕ) → axisCount p ≤ length buf → (k : ℕ) → k < r .count
+      → (jumpSpec s (r .start + k) buf .code ≡ 0) × (take (axisCount p) (jumpBuf s (r .start + k) buf) ≡ pointOf p (r .start + k))

@@ -1,0 +1,57 @@
+-- Calls in a row, by their own answers: the states that accepted calls leave (01-scope.md, number 15), and what steps and blocks serve of a run.
+-- Definitions only.
+use mathlib.Core.Path.{_≡_}
+use mathlib.Core.List.{List, [], _∷_, _++_}
+use Prim.Native.Nat.{ℕ, _*_, _≤_}
+use lib.ListN.{length, take}
+use Rattle.bits.specs.Stream.{AllBelow}
+use Rattle.plan.specs.Order.{unlessNumber}
+use Rattle.points.specs.Run.{Run}
+use Rattle.state.specs.declared.Sampler.{Sampler}
+use Rattle.calls.specs.Calls.{readSpec, openSpec, stepSpec, stepBuf, blockSpec, blockBuf}
+
+-- the states that an accepted reading of these bytes, with any accepted openings, steps and blocks after it, leaves
+pub data After (bytes : List ℕ) : Sampler → Type 0 where
+  read : AllBelow 256 bytes → readSpec bytes .code ≡ 0 → After bytes (readSpec bytes .state)
+  opened : {s : Sampler} → After bytes s → (r : Run) → openSpec s r .code ≡ 0 → After bytes (openSpec s r .state)
+  stepped : {s : Sampler} → After bytes s → (buf : List ℕ) → stepSpec s buf .code ≡ 0 → After bytes (stepSpec s buf .state)
+  filled : {s : Sampler} → After bytes s → (buf : List ℕ) → blockSpec s buf .code ≡ 0 → After bytes (blockSpec s buf .state)
+
+-- some accepted calls leave the state
+abbrev pub AfterCalls : Sampler → Type 0
+AfterCalls s = (bytes : List ℕ) × After bytes s
+
+-- ---- serving a run
+
+-- a step or a block, with the words that it is lent
+pub data Request : Type 0 where
+  step : List ℕ → Request
+  block : List ℕ → Request
+
+abbrev pub lentTo : Request → List ℕ
+lentTo (step buf) = buf
+lentTo (block buf) = buf
+
+-- the state that it leaves
+unfoldable pub movedBy : Request → Sampler → Sampler
+movedBy (step buf) s = stepSpec s buf .state
+movedBy (block buf) s = blockSpec s buf .state
+
+-- the points that it writes, none where it is refused
+unfoldable pub writtenBy : Request → Sampler → List ℕ
+writtenBy (step buf) s = unlessNumber (stepSpec s buf .code) (take (s .axes) (stepBuf s buf)) []
+writtenBy (block buf) s = take (blockSpec s buf .points * s .axes) (blockBuf s buf)
+
+-- requests one after another: the state that they leave, and the points that they write
+unfoldable pub stateAfter : List Request → Sampler → Sampler
+stateAfter [] s = s
+stateAfter (q ∷ requests) s = stateAfter requests (movedBy q s)
+
+unfoldable pub pointsServed : List Request → Sampler → List ℕ
+pointsServed [] s = []
+pointsServed (q ∷ requests) s = writtenBy q s ++ pointsServed requests (movedBy q s)
+
+-- each is lent room for a point of so many axes
+unfoldable pub AllRoom : ℕ → List Request → Type 0
+AllRoom axes [] = Unit {0}
+AllRoom axes (q ∷ requests) = (axes ≤ length (lentTo q)) × AllRoom axes requests
