@@ -1,6 +1,6 @@
 -- A reading is refused with a number exactly where that refusal is due: the fields before are right, so the reading arrives at the field or
 -- the tail whose rule is broken. Assumes nothing.
-use mathlib.Core.Path.{_≡_, refl, _∙_}
+use mathlib.Core.Path.{_≡_, refl, sym, _∙_}
 use mathlib.Core.Bool.{true}
 use mathlib.Core.List.{List, [], _++_, append-assoc}
 use mathlib.Core.Logic.{_↔_, _⊎_, ⊎-elim}
@@ -9,8 +9,8 @@ use native.Mathlib.Omega.{arith}
 use lib.ListN.{length}
 use borrow.Author.Tests.{lt-ltb, eq-eqb, ne-eqb}
 use Rattle.bits.specs.Stream.{toBits, bitsOf}
-use Rattle.plan.specs.Plan.{Axis, headerBits, msBits, axesBits}
-use Rattle.plan.specs.Reading.{refuse, field, sharesFactor, readBases, notPrimitive, isRepeated, readMs, readAxis, readAxes, readFields, refused, closed, finish, readPlan}
+use Rattle.plan.specs.Plan.{Axis, Plan, headerBits, msBits, axesBits}
+use Rattle.plan.specs.Reading.{refuse, field, sharesFactor, readBases, notPrimitive, isRepeated, readMs, readAxis, readAxes, readFields, Reading, refused, accepted, closed, finish, readPlan}
 use Rattle.plan.specs.Refusals.{Field, familyField, axesField, baseField, degreeField, coefficientsField, mField, width, Before, Refusal, short, badFamily, badAxes, badBase, sharedFactor, highDegree, unfitPolynomial, evenM, repeated, badEnding}
 use Rattle.plan.proofs.TestLaws.{true-of, no-shared-factor-iff, not-repeated-iff, primitive-iff, bad-tail}
 use Rattle.plan.proofs.StepLaws.{refuses, passes, field-short, field-of, then-refuses, afterCoefficients}
@@ -124,3 +124,17 @@ refusal-range (badEnding p rest v w e) = (omega arith, omega arith)
 
 pub refused-range : (bytes : List ℕ) (n : ℕ) → readPlan bytes ≡ refused n → (1 ≤ n) × (n ≤ 10)
 refused-range bytes n e = refusal-range (refused-due bytes n e)
+
+-- a plan is accepted if and only if none of the numbers is due to its bytes
+pub accepted-iff-none : (bytes : List ℕ) → ((p : Plan) × (readPlan bytes ≡ accepted p)) ↔ ((n : ℕ) → Refusal (bitsOf bytes) n → ⊥)
+accepted-iff-none bytes = (never, λ none. decided none (readPlan bytes) refl)
+  where
+    never : ((p : Plan) × (readPlan bytes ≡ accepted p)) → (n : ℕ) → Refusal (bitsOf bytes) n → ⊥
+    never w n r =
+        let e : accepted (w .0) ≡ refused n = sym (w .1) ∙ refused-iff bytes n .1 r in
+        let z : _≡_ {A = ℕ} 0 1 = cc in
+        omega arith
+
+    decided : ((n : ℕ) → Refusal (bitsOf bytes) n → ⊥) → (r : Reading) → readPlan bytes ≡ r → (p : Plan) × (readPlan bytes ≡ accepted p)
+    decided none (refused n) e = absurd (none n (refused-due bytes n e))
+    decided none (accepted p) e = (p, e)
