@@ -1,6 +1,6 @@
 -- Reading one Sobol axis: the test for a repeated polynomial, and the axis by the tests. Assumes nothing.
 use mathlib.Core.Path.{_≡_, refl, sym, ap, _∙_}
-use mathlib.Core.Bool.{Bool, true, false, _||_, cond}
+use mathlib.Core.Bool.{Bool, true, false, _||_}
 use mathlib.Core.List.{List, [], _∷_, _++_}
 use Prim.Native.Nat.{ℕ, zero, suc, _+_, _-_, _<_, _≤_}
 use native.Mathlib.Omega.{arith}
@@ -81,17 +81,20 @@ module _ (earlier : List Axis) (l : List ℕ) (d : ℕ) (e : ltb (length l) 4 �
       unfolding readAxis field refuseIf
       unfit u = rw (e, ed, f, g, ep, u) refl
 
-      fit : notPrimitive d p ≡ false → readAxis earlier l ≡ refuseIf (isRepeated p earlier) 9 (andThen (readMs d 1 [] (drop (d - 1) (drop 4 l))) (afterMs p))
-      unfolding readAxis field
-      fit u = unfold refuseIf in (rw (e, ed, f, g, ep, u) refl)
+      module _ (u : notPrimitive d p ≡ false) where
+        twin : isRepeated p earlier ≡ true → readAxis earlier l ≡ refuse 9
+        unfolding readAxis field refuseIf
+        twin t = rw (e, ed, f, g, ep, u, t) refl
 
--- the code that the m's answer, after the test for a repeated polynomial
-tested : (t : Bool) (code p : ℕ) (ms l : List ℕ)
-    → refuseIf t 9 (andThen (stepOf code ms l) (afterMs p)) ≡ stepOf (cond t 9 code) (record { polynomial = p; ms = ms }) l
-unfolding refuseIf andThen
-tested true code p ms l = refl
-tested false zero p ms l = refl
-tested false (suc n) p ms l = refl
+        fit : isRepeated p earlier ≡ false → readAxis earlier l ≡ andThen (readMs d 1 [] (drop (d - 1) (drop 4 l))) (afterMs p)
+        unfolding readAxis field
+        fit t = unfold refuseIf in (rw (e, ed, f, g, ep, u, t) refl)
+
+-- the code that the m's answer is the axis's
+passed-on : (code p : ℕ) (ms l : List ℕ) → andThen (stepOf code ms l) (afterMs p) ≡ stepOf code (record { polynomial = p; ms = ms }) l
+unfolding andThen
+passed-on zero p ms l = refl
+passed-on (suc n) p ms l = refl
 
 -- ---- what `read_axis` has read
 
@@ -166,26 +169,29 @@ module _ (bytes ps : List ℕ) (start n : ℕ) where
     pub axis-unfit : u ≡ true → AxisStop 7
     axis-unfit t = axis-refuses 6 (λ b. unfit _ _ d (h .degree .long) (is-d (h .degree)) (le-ltb 12 d (h .most)) long p is-p (sym eu ∙ t))
 
-    module _ (tu : u ≡ false) {t : Bool} (et : (b : List ℕ) → t ≡ isRepeated p (axesOf ps b n)) {mc mat : ℕ} {ms : List ℕ} (m : MsSay bytes (start + 4 + w) d mc mat ms)
-        {code : ℕ} (ec : code ≡ cond t 9 mc) where
-      answered : (b : List ℕ) → readAxis (axesOf ps b n) (drop start (bitsOf bytes)) ≡ stepOf code (record { polynomial = p; ms = take d ms }) (drop mat (bitsOf bytes))
-      answered b =
-          rw ec
-          (fit _ _ d (h .degree .long) (is-d (h .degree)) (le-ltb 12 d (h .most)) long p is-p (sym eu ∙ tu)
-          ∙ rw (← et b, drop-drop 4 start (bitsOf bytes), ← h .width, drop-drop w (start + 4) (bitsOf bytes), m .step)
-          (tested t mc p (take d ms) (drop mat (bitsOf bytes))))
+    module _ (tu : u ≡ false) {t : Bool} (et : (b : List ℕ) → t ≡ isRepeated p (axesOf ps b n)) where
+      pub axis-twin : t ≡ true → AxisStop 9
+      axis-twin r =
+          axis-refuses 8 (λ b. twin _ _ d (h .degree .long) (is-d (h .degree)) (le-ltb 12 d (h .most)) long p is-p (sym eu ∙ tu) (sym (et b) ∙ r))
 
-      pub axis-stop : (code ≡ 0 → ⊥) → AxisStop code
-      axis-stop z = axis-refused code z _ _ answered
+      module _ (nt : t ≡ false) {code at : ℕ} {ms : List ℕ} (m : MsSay bytes (start + 4 + w) d code at ms) where
+        answered : (b : List ℕ) → readAxis (axesOf ps b n) (drop start (bitsOf bytes)) ≡ stepOf code (record { polynomial = p; ms = take d ms }) (drop at (bitsOf bytes))
+        answered b =
+            fit _ _ d (h .degree .long) (is-d (h .degree)) (le-ltb 12 d (h .most)) long p is-p (sym eu ∙ tu) (sym (et b) ∙ nt)
+            ∙ rw (drop-drop 4 start (bitsOf bytes), ← h .width, drop-drop w (start + 4) (bitsOf bytes), m .step)
+            (passed-on code p (take d ms) (drop at (bitsOf bytes)))
 
-      pub axis-end : code ≡ 0 → AxisSays bytes start n ps 0 mat d p ms
-      axis-end z =
-          record {
-            step = λ b. answered b ∙ rw z refl;
-            blank = m .blank;
-            size = m .size;
-            degree-high = h .most;
-            has-degree = λ q. polynomial-fits h;
-            within = m .within;
-            near = omega arith;
-          }
+        pub axis-stop : (code ≡ 0 → ⊥) → AxisStop code
+        axis-stop z = axis-refused code z _ _ answered
+
+        pub axis-end : code ≡ 0 → AxisSays bytes start n ps 0 at d p ms
+        axis-end z =
+            record {
+              step = λ b. answered b ∙ rw z refl;
+              blank = m .blank;
+              size = m .size;
+              degree-high = h .most;
+              has-degree = λ q. polynomial-fits h;
+              within = m .within;
+              near = omega arith;
+            }

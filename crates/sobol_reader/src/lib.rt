@@ -1,7 +1,6 @@
 // Reading the axes of a Sobol plan: the fields in their order, and the first refusal that holds.
 use plan::refusal;
 ghost use mathlib.Core.Path.{_≡_};
-ghost use mathlib.Core.Bool.{cond};
 ghost use mathlib.Core.List.{List};
 ghost use Prim.Native.Nat.{ℕ, _+_, _-_, _*_, _<_, _≤_};
 ghost use lib.ListN.{length, replicate};
@@ -92,17 +91,6 @@ fn not_primitive(d: u64, p: u64) -> bool
     !primitive::is_primitive(d, p)
 }
 
-// The refusal after the coefficients: that of a repeated polynomial comes before those of the m's.
-fn first_refusal(repeated: bool, code: u64) -> u64
-    ensures { λ r. ⌜ r ≡ cond repeated 9 code ⌝ }
-{
-    if repeated {
-        refusal::REPEATED_POLYNOMIAL
-    } else {
-        code
-    }
-}
-
 // What reading an axis comes to.
 struct AxisRead {
     code: u64,
@@ -145,11 +133,12 @@ fn read_axis(bytes: &[u8], start: usize, polynomials: &[u64], n: usize) -> AxisR
     if not_primitive(d, p) {
         return no_axis(refusal::NOT_PRIMITIVE);
     }
-    let repeated = is_repeated(p, polynomials, n);
+    if is_repeated(p, polynomials, n) {
+        return no_axis(refusal::REPEATED_POLYNOMIAL);
+    }
     let m = read_ms(bytes, at + w, d as usize);
-    let code = first_refusal(repeated, m.code);
-    if code != 0 {
-        return no_axis(code);
+    if m.code != 0 {
+        return no_axis(m.code);
     }
     let ms = m.ms;
     AxisRead {
