@@ -11,7 +11,7 @@ use borrow.Author.Tests.{lt-ltb, eq-eqb, ne-eqb}
 use Rattle.bits.specs.Stream.{toBits, bitsOf}
 use Rattle.plan.specs.Plan.{Axis, Plan, headerBits, msBits, axesBits}
 use Rattle.plan.specs.Reading.{refuse, field, sharesFactor, readBases, notPrimitive, isRepeated, readMs, readAxis, readAxes, readFields, Reading, refused, accepted, closed, finish, readPlan}
-use Rattle.plan.specs.Refusals.{Field, familyField, axesField, baseField, degreeField, coefficientsField, mField, width, Before, Refusal, short, badFamily, badAxes, badBase, sharedFactor, highDegree, unfitPolynomial, evenM, repeated, badEnding}
+use Rattle.plan.specs.Refusals.{Field, familyField, axesField, baseField, degreeField, coefficientsField, mField, width, Before, Refusal, short, badFamily, badAxes, badBase, sharedFactor, highDegree, nonPrimitive, evenM, repeated, badEnding}
 use Rattle.plan.proofs.TestLaws.{true-of, no-shared-factor-iff, not-repeated-iff, primitive-iff, bad-tail}
 use Rattle.plan.proofs.StepLaws.{refuses, passes, field-short, field-of, then-refuses, afterCoefficients}
 use Rattle.plan.proofs.FrontLaws.{degree-front, polynomial-front, given-front, family-front, halton-front, sobol-front, plan-front}
@@ -92,7 +92,7 @@ module _ (bits : List ℕ) where
       (λ k. field-of 8 (a - 1) rest _ (omega arith) ∙ passes 4 _ (ne-eqb (a - 1) 0 (λ z. omega arith)) ∙ refuses 5 _ test))
   due-refused (highDegree s d axes l rest b h top e) =
       broken l (toBits 4 d) rest 6 e (axis-stops s axes l _ 6 b (field-of 4 d rest _ top ∙ refuses 6 _ (lt-ltb 12 d h)))
-  due-refused (unfitPolynomial s d p axes l rest b h g o not e) =
+  due-refused (nonPrimitive s d p axes l rest b h g o not e) =
       let test : notPrimitive d p ≡ true = true-of (notPrimitive d p) (λ t. not (primitive-iff d p g .0 t h)) in
       broken l (toBits (d - 1) (p / 2)) rest 7 e (coefficients-stop s d axes l _ 7 b (polynomial-front axes d p rest g o ∙ refuses 7 _ test))
   due-refused (evenM s d p m axes ms l rest b h even e) =
@@ -117,7 +117,7 @@ refusal-range (badAxes family s l rest b w e) = (omega arith, omega arith)
 refusal-range (badBase family s bases l rest b e) = (omega arith, omega arith)
 refusal-range (sharedFactor family s a j bases l rest b low high h shared e) = (omega arith, omega arith)
 refusal-range (highDegree s d axes l rest b h top e) = (omega arith, omega arith)
-refusal-range (unfitPolynomial s d p axes l rest b h g o not e) = (omega arith, omega arith)
+refusal-range (nonPrimitive s d p axes l rest b h g o not e) = (omega arith, omega arith)
 refusal-range (evenM s d p m axes ms l rest b h even e) = (omega arith, omega arith)
 refusal-range (repeated s d p j axes l rest b fit h same e) = (omega arith, omega arith)
 refusal-range (badEnding p rest v w e) = (omega arith, omega arith)

@@ -16,8 +16,8 @@ use Rattle.plan.specs.Reading.{Step, got, refuseIf, field, andThen, readBody, r
 use Rattle.plan.specs.Answer.{axesOf, answerOf, stepOf}
 use Rattle.plan.specs.declared.PlanRead.{PlanRead}
 use Rattle.plan.proofs.AnswerLaws.{length-axes}
-use Rattle.halton_reader.specs.Bases.{BasesSay}
-use Rattle.sobol_reader.specs.Axes.{AxesSay}
+use Rattle.halton_reader.specs.Bases.{BasesAnswer}
+use Rattle.sobol_reader.specs.Axes.{AxesAnswer}
 use Rattle.plan.proofs.BlankLaws.{padded-front}
 use Rattle.plan.proofs.PartLaws.{field-value, finish-stops}
 
@@ -63,7 +63,7 @@ haltonReading bytes family axes = answerOf (finish (readBody false family axes (
 abbrev sobolReading : List ℕ → ℕ → PlanRead
 sobolReading bytes axes = answerOf (finish (readBody true 2 axes (drop 5 (bitsOf bytes))))
 
-module _ (bytes : List ℕ) (family axes : ℕ) {code at : ℕ} {bases : List ℕ} (h : BasesSay bytes axes code at bases) where
+module _ (bytes : List ℕ) (family axes : ℕ) {code at : ℕ} {bases : List ℕ} (h : BasesAnswer bytes axes code at bases) where
   halton-body : readBody false family axes (drop 5 (bitsOf bytes)) ≡ andThen (stepOf code (take axes bases) (drop at (bitsOf bytes))) λ x r. got (halton family x) r
   unfolding readBody
   halton-body = rw (h .step) refl
@@ -83,7 +83,7 @@ module _ (bytes : List ℕ) (family axes : ℕ) {code at : ℕ} {bases : List �
         let whole : bases ≡ padded 6 (take axes bases) = padded-front 6 axes bases (h .size) most (h .blank) in
         rw (closes _ (halton family) code _ _ halton-body z et, b, n, ← whole) refl
 
-module _ (bytes : List ℕ) (axes : ℕ) {code at : ℕ} {ps ms : List ℕ} (h : AxesSay bytes axes code at ps ms) where
+module _ (bytes : List ℕ) (axes : ℕ) {code at : ℕ} {ps ms : List ℕ} (h : AxesAnswer bytes axes code at ps ms) where
   sobol-body : readBody true 2 axes (drop 5 (bitsOf bytes)) ≡ andThen (stepOf code (axesOf ps ms axes) (drop at (bitsOf bytes))) λ x r. got (sobol x) r
   unfolding readBody
   sobol-body = rw (h .step) refl

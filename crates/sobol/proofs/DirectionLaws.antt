@@ -16,7 +16,7 @@ use borrow.Author.Tests.{lt-ltb, le-ltb}
 use Rattle.binary.specs.Gf2.{times}
 use Rattle.numbers.proofs.Cases.{lt-or-ge}
 use Rattle.binary.proofs.XorLaws.{xor-odd}
-use Rattle.binary.proofs.MixLaws.{times-lt, times-set, times-clear}
+use Rattle.binary.proofs.CombinationLaws.{times-lt, times-set, times-clear}
 use Rattle.sobol.specs.Directions.{mTerm, mTerms, mRule, mNext, mList, scaled, directions, OddBelow, AllOddBelow}
 
 -- ---- a shift by k loses no digit of an m at place j

@@ -16,7 +16,7 @@ use Rattle.bits.proofs.OverwriteLaws.{length-over}
 use Rattle.plan.specs.Plan.{Axis}
 use Rattle.plan.specs.Reading.{andThen, readAxes}
 use Rattle.plan.specs.Answer.{polynomialsOf, msOf, axisAt, axesOf, stepOf}
-use Rattle.sobol_reader.specs.Axes.{AxisSays, AxesSay}
+use Rattle.sobol_reader.specs.Axes.{AxisAnswer, AxesAnswer}
 use Rattle.plan.proofs.BlankLaws.{blank-drop, blank-set, padded-front}
 use Rattle.plan.proofs.PartLaws.{then-stops}
 
@@ -139,7 +139,7 @@ axes-start bytes axes h =
     }
 
 module _ {bytes : List ℕ} {axes : ℕ} {ps ms : List ℕ} {at i : ℕ} (inv : AxesLoop bytes axes ps ms at i) (most : axes ≤ 6) where
-  pub axes-end : axes ≤ i → AxesSay bytes axes 0 at ps ms
+  pub axes-end : axes ≤ i → AxesAnswer bytes axes 0 at ps ms
   unfolding readAxes
   axes-end h =
       let e : i ≡ axes = omega arith in
@@ -155,7 +155,7 @@ module _ {bytes : List ℕ} {axes : ℕ} {ps ms : List ℕ} {at i : ℕ} (inv : 
         near = omega arith;
       }
 
-  module _ (h : i < axes) {code at′ d p : ℕ} {block : List ℕ} (x : AxisSays bytes at i ps code at′ d p block) where
+  module _ (h : i < axes) {code at′ d p : ℕ} {block : List ℕ} (x : AxisAnswer bytes at i ps code at′ d p block) where
     turn : readAxes axes [] (drop 5 (bitsOf bytes))
         ≡ andThen (stepOf code (record { polynomial = p; ms = take d block }) (drop at′ (bitsOf bytes))) λ y r. readAxes (axes - (i + 1)) (axesOf ps ms i ++ y ∷ []) r
     unfolding readAxes
@@ -164,7 +164,7 @@ module _ {bytes : List ℕ} {axes : ℕ} {ps ms : List ℕ} {at i : ℕ} (inv : 
         inv .same ∙ rw left (rw (x .step ms) refl)
 
     -- any other code is right for the answer of `no_axes`
-    pub axes-stop : (code ≡ 0 → ⊥) → {code′ at2 : ℕ} {ps′ ms′ : List ℕ} → (code′ ≡ code) × (at2 ≡ 0) → AxesSay bytes axes code′ at2 ps′ ms′
+    pub axes-stop : (code ≡ 0 → ⊥) → {code′ at2 : ℕ} {ps′ ms′ : List ℕ} → (code′ ≡ code) × (at2 ≡ 0) → AxesAnswer bytes axes code′ at2 ps′ ms′
     axes-stop z f =
         rw (f .0, f .1)
         (record { step = turn ∙ then-stops code _ _ _ _ _ z; flat = λ q. absurd (z q); within = omega arith; near = omega arith })

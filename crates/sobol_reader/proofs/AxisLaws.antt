@@ -16,7 +16,7 @@ use Rattle.plan.specs.Reading.{refuse, refuseIf, field, andThen, polynomialOf, 
 use Rattle.plan.specs.Answer.{axisAt, axesOf, stepOf}
 use Rattle.plan.proofs.TestLaws.{polynomial-degree}
 use Rattle.plan.proofs.StepLaws.{afterMs}
-use Rattle.sobol_reader.specs.Axes.{MsSay, AxisSays}
+use Rattle.sobol_reader.specs.Axes.{MsAnswer, AxisAnswer}
 use Rattle.plan.proofs.PartLaws.{field-value, step-stops}
 
 -- ---- a polynomial against those of the first n axes of arrays
@@ -121,7 +121,7 @@ module _ (bytes ps : List ℕ) (start n : ℕ) where
   -- number k is right for the answer of `no_axis`
   abbrev pub AxisStop : ℕ → Type 0
   AxisStop k = (code at degree p : ℕ) (ms : List ℕ) → (code ≡ k) × (at ≡ 0) × (degree ≡ 0) × (ms ≡ replicate 12 0)
-      → AxisSays bytes start n ps code at degree p ms
+      → AxisAnswer bytes start n ps code at degree p ms
 
   axis-refused : (k : ℕ) → (k ≡ 0 → ⊥) → (x : Axis) (l : List ℕ) → ((b : List ℕ) → readAxis (axesOf ps b n) (drop start (bitsOf bytes)) ≡ stepOf k x l) → AxisStop k
   axis-refused k z x l e code at degree p ms f =
@@ -174,7 +174,7 @@ module _ (bytes ps : List ℕ) (start n : ℕ) where
       axis-twin r =
           axis-refuses 8 (λ b. twin _ _ d (h .degree .long) (is-d (h .degree)) (le-ltb 12 d (h .most)) long p is-p (sym eu ∙ tu) (sym (et b) ∙ r))
 
-      module _ (nt : t ≡ false) {code at : ℕ} {ms : List ℕ} (m : MsSay bytes (start + 4 + w) d code at ms) where
+      module _ (nt : t ≡ false) {code at : ℕ} {ms : List ℕ} (m : MsAnswer bytes (start + 4 + w) d code at ms) where
         answered : (b : List ℕ) → readAxis (axesOf ps b n) (drop start (bitsOf bytes)) ≡ stepOf code (record { polynomial = p; ms = take d ms }) (drop at (bitsOf bytes))
         answered b =
             fit _ _ d (h .degree .long) (is-d (h .degree)) (le-ltb 12 d (h .most)) long p is-p (sym eu ∙ tu) (sym (et b) ∙ nt)
@@ -184,7 +184,7 @@ module _ (bytes ps : List ℕ) (start n : ℕ) where
         pub axis-stop : (code ≡ 0 → ⊥) → AxisStop code
         axis-stop z = axis-refused code z _ _ answered
 
-        pub axis-end : code ≡ 0 → AxisSays bytes start n ps 0 at d p ms
+        pub axis-end : code ≡ 0 → AxisAnswer bytes start n ps 0 at d p ms
         axis-end z =
             record {
               step = λ b. answered b ∙ rw z refl;

@@ -13,7 +13,7 @@ use Rattle.plan.specs.declared.PlanRead.{PlanRead}
 use Rattle.plan.proofs.RefusalLaws.{refused-range}
 use Rattle.plan.proofs.AnswerLaws.{read-accepted, read-refused}
 use Rattle.walk_text.specs.Text.{textOf, walkText}
-use Rattle.text.specs.Put.{Put}
+use Rattle.text.specs.Put.{TextPut}
 
 module _ (bytes : List ℕ) (a : PlanRead) (e : a ≡ answerOf (readPlan bytes)) where
   pub code-low : (a .code ≡ 0 → ⊥) → a .code ≤ 10
@@ -27,7 +27,7 @@ module _ (bytes : List ℕ) (a : PlanRead) (e : a ≡ answerOf (readPlan bytes))
     answer-accepted = record { valid = read-accepted bytes below a e z .1; is = e ∙ ap answerOf read-plan-is }
 
 -- the text from the front of the buffer on is all of the answer
-pub whole : {old new : List ℕ} {n : ℕ} (input : List ℕ) (r : Reading) → readPlan (take 72 input) ≡ r → Put old new 0 (textOf r) n
+pub whole : {old new : List ℕ} {n : ℕ} (input : List ℕ) (r : Reading) → readPlan (take 72 input) ≡ r → TextPut old new 0 (textOf r) n
     → ((n ≡ length (walkText input)) × (new ≡ walkText input ++ drop n old)) × ((n ≤ length new) × (n ≡ length (take n new)))
 unfolding walkText overwrite
 whole {old} {new} {n} input r e p =

@@ -11,12 +11,12 @@ use Rattle.bits.specs.Stream.{toBits, AllBelow, overwrite, bytesFor}
 use Rattle.bits.proofs.PackLaws.{packed-front}
 use Rattle.plan.specs.Plan.{Plan, planBits, spell}
 use Rattle.plan.proofs.SpellingLaws.{length-spell, below-plan-bits}
-use Rattle.axes_writer.specs.Parts.{Put}
+use Rattle.axes_writer.specs.Parts.{BitsPut}
 use Rattle.axes_writer.proofs.PartLaws.{put-then}
 use Rattle.writer.specs.Parts.{Written, writtenIf}
 
 -- the plan's bits were put into a buffer, and len is how many bytes they need
-module _ (p : Plan) {z b : List ℕ} {n : ℕ} (len : ℕ) (plan : Put z b 0 (planBits p) n) (el : len ≡ bytesFor n) where
+module _ (p : Plan) {z b : List ℕ} {n : ℕ} (len : ℕ) (plan : BitsPut z b 0 (planBits p) n) (el : len ≡ bytesFor n) where
   count : n ≡ length (planBits p)
   count = omega arith
 
@@ -30,7 +30,7 @@ module _ (p : Plan) {z b : List ℕ} {n : ℕ} (len : ℕ) (plan : Put z b 0 (pl
       record { answer = rw t refl; reported = rw t refl; bytes = rw t refl }
 
   -- d is the buffer with zero bits after them
-  pub has-room : {d old new : List ℕ} {end : ℕ} → Put b d n (toBits (8 * len - n) 0) end → len ≤ length old → AllBelow 256 (take len d)
+  pub has-room : {d old new : List ℕ} {end : ℕ} → BitsPut b d n (toBits (8 * len - n) 0) end → len ≤ length old → AllBelow 256 (take len d)
       → new ≡ overwrite old 0 (take len d) → Written p old new 0 len
   unfolding writtenIf overwrite spell
   has-room {d} {old} filling h bytes copied =

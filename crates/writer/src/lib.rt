@@ -6,7 +6,7 @@ ghost use lib.ListN.{length, take};
 ghost use Rattle.bits.specs.Stream.{AllBelow, overwrite};
 ghost use Rattle.plan.specs.Plan.{planBits};
 ghost use Rattle.plan.specs.Answer.{planOf};
-ghost use Rattle.axes_writer.specs.Parts.{Put};
+ghost use Rattle.axes_writer.specs.Parts.{BitsPut};
 ghost use Rattle.writer.specs.Parts.{Writable, Written};
 
 // The bits of the plan, into a buffer of 128 bytes; gives how many there are.
@@ -19,7 +19,7 @@ fn put_plan(
     ms: &[u64],
 ) -> usize
     requires { ⌜ (length (now out) ≡ 128) × Writable family axes (now bases) (now polynomials) (now ms) ⌝ }
-    ensures { λ r. ⌜ Put (now (out .entry)) (now (out .exit)) 0 (planBits (planOf family axes (now (bases .entry)) (now (polynomials .entry)) (now (ms .entry)))) r × (r ≤ 965) ⌝ }
+    ensures { λ r. ⌜ BitsPut (now (out .entry)) (now (out .exit)) 0 (planBits (planOf family axes (now (bases .entry)) (now (polynomials .entry)) (now (ms .entry)))) r × (r ≤ 965) ⌝ }
 {
     bits::put(out, 0, 2, family);
     bits::put(out, 2, 3, axes as u64);

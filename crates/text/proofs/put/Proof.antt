@@ -3,13 +3,13 @@ use mathlib.Core.Path.{refl}
 use Prim.Native.Nat.{_+_, _-_, _≤_}
 use native.Mathlib.Omega.{arith}
 use lib.ListN.{length, take}
-use Rattle.text.specs.Put.{Put}
+use Rattle.text.specs.Put.{TextPut}
 use Rattle.text.proofs.PutLaws.{first-none, first-next, first-all}
 use Rattle.text.proofs.put.Statement.{statement}
 use Rattle.text.proofs.put.Tie as tie
 
 abbrev Inv-loop : tie.InvT-loop
-Inv-loop out₀ at text i₀ out i = (i ≤ length text) × Put out₀ out at (take i text) (at + i)
+Inv-loop out₀ at text i₀ out i = (i ≤ length text) × TextPut out₀ out at (take i text) (at + i)
 
 abbrev μ-loop : tie.MeasureT-loop
 μ-loop out₀ at text i₀ out i = length text - i

@@ -4,14 +4,14 @@ use Prim.Native.Nat.{_+_, _-_, _≤_}
 use native.Mathlib.Omega.{arith}
 use lib.ListN.{take}
 use Rattle.text.specs.Decimal.{decimalDigits}
-use Rattle.text.specs.Put.{Put}
+use Rattle.text.specs.Put.{TextPut}
 use Rattle.text.proofs.PutLaws.{first-none, first-next, first-all}
 use Rattle.text.proofs.DecimalLaws.{length-digits, weightOf, weight-fits, weight-first, weight-pos, weight-next, digit-at}
 use Rattle.text.proofs.put_digits.Statement.{statement}
 use Rattle.text.proofs.put_digits.Tie as tie
 
 abbrev Inv-loop : tie.InvT-loop
-Inv-loop out₀ at k n weight₀ i₀ out weight i = (i ≤ k) × (weight ≡ weightOf k i) × Put out₀ out at (take i (decimalDigits k n)) (at + i)
+Inv-loop out₀ at k n weight₀ i₀ out weight i = (i ≤ k) × (weight ≡ weightOf k i) × TextPut out₀ out at (take i (decimalDigits k n)) (at + i)
 
 abbrev μ-loop : tie.MeasureT-loop
 μ-loop out₀ at k n weight₀ i₀ out weight i = k - i
