@@ -9,7 +9,7 @@ use lib.Seq.{take-suc, length-take-le}
 use Rattle.binary.specs.Polynomial.{degreeOf}
 use Rattle.bits.specs.Stream.{toBits, bitsOf, overwrite}
 use Rattle.bits.proofs.StreamLaws.{length-to-bits, length-bits}
-use Rattle.bits.proofs.OverwriteLaws.{over-append, over-zero}
+use Rattle.bits.proofs.OverwriteLaws.{over-none, over-append}
 use Rattle.plan.specs.Plan.{basesBits, msBits, axisBits, axesBits}
 use Rattle.plan.specs.Answer.{axisAt, axesOf}
 use Rattle.plan.proofs.SpellingLaws.{bases-bits-snoc, ms-bits-snoc, axes-bits-snoc}
@@ -18,7 +18,7 @@ use Rattle.axes_writer.specs.Parts.{BitsPut}
 -- ---- any parts
 
 pub put-none : (old : List ℕ) (start : ℕ) → BitsPut old old start [] start
-put-none old start = record { bits = over-zero (bitsOf old) start []; size = refl; after = omega arith }
+put-none old start = record { bits = over-none (bitsOf old) start; size = refl; after = omega arith }
 
 -- a field of w bits and value v, from what a call put: v′ in w′ bits, at bit `at`
 pub put-field : {old new : List ℕ} {at w′ v′ : ℕ} (start w v : ℕ) → length new ≡ length old → bitsOf new ≡ overwrite (bitsOf old) at (toBits w′ v′)
@@ -29,7 +29,7 @@ pub put-then : {old mid new x y : List ℕ} {start next end : ℕ} → start ≤
     → BitsPut old new start (x ++ y) end
 put-then {old} {x = x} {y = y} {start = start} {next = next} room p q =
     record {
-      bits = q .bits ∙ rw (p .bits) (over-append (bitsOf old) start x next y (omega (arith, length-bits old)) (p .after));
+      bits = q .bits ∙ rw (p .bits) (over-append (bitsOf old) start x next (omega (arith, length-bits old)) (p .after) y);
       size = q .size ∙ p .size;
       after = omega (arith, length-append x y);
     }

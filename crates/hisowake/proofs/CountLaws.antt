@@ -3,7 +3,7 @@ use mathlib.Core.Path.{_≡_, refl, _∙_}
 use mathlib.Core.Bool.{true, false, and-eq-true-iff, cond}
 use mathlib.Core.Logic.{⊎-elim}
 use mathlib.Core.List.{List, [], _∷_, _++_}
-use Prim.Native.Nat.{ℕ, _+_, _*_}
+use Prim.Native.Nat.{ℕ, _*_}
 use native.Mathlib.Omega.{arith}
 use lib.Dec.{eqb}
 use lib.ListN.{length, drop}
@@ -11,6 +11,7 @@ use borrow.Author.Tests.{eq-eqb, ne-eqb, eqb-true}
 use Rattle.numbers.specs.Count.{count}
 use Rattle.numbers.proofs.Cases.{true-or-false}
 use Rattle.bits.specs.Stream.{overwrite}
+use Rattle.bits.proofs.OverwriteLaws.{over-start}
 use Rattle.plan.specs.Plan.{Plan, Valid}
 use Rattle.plan.specs.Reading.{refused, accepted, readPlan}
 use Rattle.points.specs.Point.{axisCount}
@@ -57,12 +58,11 @@ module _ (bytes : List ℕ) (s : ℕ) where
 pub count-put : {p : Plan} {family axes : ℕ} {bases vs : List ℕ} → Holds p family axes bases vs → Valid p → (start N : ℕ) (window old new w : List ℕ) (inside bound : ℕ)
     → w ≡ windowIn window axes → inside ≡ count (insideFrom family bases vs w axes start) N → bound ≡ boundBy (eqb family 2) bases N axes
     → new ≡ overwrite old 0 (wordBytes (inside ∷ bound ∷ [])) → new ≡ wordBytes (answersOf p start N window) ++ drop 16 old
-unfolding overwrite answersOf
+unfolding answersOf
 count-put {p} {axes = axes} h v start N window old new w inside bound e i b put =
     let first = i ∙ count-held p (h .family-is) (h .axes-is) (h .bases-is) v (h .directions-is) w start N in
     let second = b ∙ bound-held p (h .family-is) (h .axes-is) (h .bases-is) v N in
-    let size : 0 + length (wordBytes (inside ∷ bound ∷ [])) ≡ 16 = omega (arith, length-words (inside ∷ bound ∷ [])) in
-    put ∙ rw (size, first, second, e, h .axes-is) refl
+    put ∙ over-start old (wordBytes (inside ∷ bound ∷ [])) 16 (length-words (inside ∷ bound ∷ [])) ∙ rw (first, second, e, h .axes-is) refl
 
 -- ---- the C window count
 

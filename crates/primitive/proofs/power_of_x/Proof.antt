@@ -1,6 +1,6 @@
 -- `primitive::power_of_x` meets its contract. The loop's invariant: r is x to the exponent's digits passed. Assumes nothing.
 use mathlib.Core.Path.{_≡_, sym, ap, _∙_}
-use Prim.Native.Nat.{ℕ, _*_, _-_, _/_, _^_, _≤_}
+use Prim.Native.Nat.{ℕ, _*_, _/_, _^_, _≤_}
 use native.Mathlib.Omega.{arith}
 use native.Mathlib.Nat.{div-one}
 use denote.Ref.{now}
