@@ -10,7 +10,7 @@ use lib.ListN.{length}
 use borrow.Author.Tests.{lt-ltb, eq-eqb, ne-eqb}
 use Rattle.bits.specs.Stream.{toBits, bitsOf}
 use Rattle.plan.specs.Plan.{Axis, Plan, headerBits, msBits, axesBits}
-use Rattle.plan.specs.Reading.{refuse, field, sharesFactor, readBases, notPrimitive, isRepeated, readMs, readAxis, readAxes, readFields, Reading, refused, accepted, closed, finish, readPlan}
+use Rattle.plan.specs.Reading.{refuse, field, sharesFactor, readBases, notPrimitive, isRepeated, readMs, readAxis, readAxes, readFields, Reading, refused, accepted, finish, readPlan}
 use Rattle.plan.specs.Refusals.{Field, familyField, axesField, baseField, degreeField, coefficientsField, mField, width, Before, Refusal, short, badFamily, badAxes, badBase, sharedFactor, highDegree, nonPrimitive, evenM, repeated, badEnding}
 use Rattle.plan.proofs.TestLaws.{true-of, no-shared-factor-iff, not-repeated-iff, primitive-iff, bad-tail}
 use Rattle.plan.proofs.StepLaws.{refuses, passes, field-short, field-of, then-refuses, afterCoefficients}
@@ -78,7 +78,7 @@ module _ (bits : List ℕ) where
   broken l x rest n e f = rw (e, append-assoc l x rest, f) refl
 
   due-refused : {n : ℕ} → Refusal bits n → finish (readFields bits) ≡ refused n
-  unfolding finish closed readFields readBases readAxis readMs
+  unfolding finish readFields readBases readAxis readMs
   due-refused (short f l rest b h e) = rw (e, short-stops f l rest b h) refl
   due-refused (badFamily rest e) = broken [] (toBits 2 3) rest 2 e (field-of 2 3 rest _ (omega arith) ∙ refuses 2 _ refl)
   due-refused (badAxes family s l rest b w e) = broken l (toBits 3 s) rest 3 e (axes-stop family s l rest b w)

@@ -1,6 +1,6 @@
 -- Reading a whole plan: the bits after the last field, a family's body, and the header. Assumes nothing.
 use mathlib.Core.Path.{_≡_, refl, sym, ap, _∙_}
-use mathlib.Core.Bool.{Bool, true, false, not, _||_}
+use mathlib.Core.Bool.{Bool, true, false, not, _||_, cond}
 use mathlib.Core.List.{List}
 use Prim.Native.Nat.{ℕ, _+_, _*_, _<_, _≤_}
 use native.Mathlib.Omega.{arith}
@@ -12,7 +12,7 @@ use Rattle.numbers.specs.Listed.{padded}
 use Rattle.bits.specs.Stream.{ofBits, bitsOf, fieldAt}
 use Rattle.bits.proofs.StreamLaws.{length-bits}
 use Rattle.plan.specs.Plan.{Plan, halton, sobol}
-use Rattle.plan.specs.Reading.{Step, got, refuseIf, field, andThen, readBody, readFields, refused, badTail, closed, finish, readPlan}
+use Rattle.plan.specs.Reading.{Step, got, refuseIf, field, andThen, readBody, readFields, refused, accepted, badTail, finish, readPlan}
 use Rattle.plan.specs.Answer.{axesOf, answerOf, stepOf}
 use Rattle.plan.specs.declared.PlanRead.{PlanRead}
 use Rattle.plan.proofs.AnswerLaws.{length-axes}
@@ -48,12 +48,11 @@ module _ {A : Type 0} (body : Step Plan) (plan : A → Plan) (code : ℕ) (a : A
   refuses z f = f ∙ sym (ap answerOf (ap finish e ∙ finish-stops code a l _ z))
 
   module _ (z : code ≡ 0) {t : Bool} (et : t ≡ badTail l) where
-    closes : finish body ≡ closed t (plan a)
+    closes : finish body ≡ cond t (refused 10) (accepted (plan a))
     unfolding finish andThen
     closes = rw (e, z, ← et) refl
 
     refuses-tail : t ≡ true → {r : PlanRead} → r ≡ answerOf (refused 10) → r ≡ answerOf (finish body)
-    unfolding closed
     refuses-tail b f = f ∙ sym (ap answerOf (closes ∙ rw b refl))
 
 -- the reading of a plan of these bases or axes, from bit 5 on
@@ -77,7 +76,7 @@ module _ (bytes : List ℕ) (family axes : ℕ) {code at : ℕ} {bases : List �
 
     pub halton-end : t ≡ false → axes ≤ 6
         → record { code = 0; family = family; axes = axes; bases = bases; polynomials = replicate 6 0; ms = replicate 72 0 } ≡ haltonReading bytes family axes
-    unfolding closed answerOf
+    unfolding answerOf
     halton-end b most =
         let n : length (take axes bases) ≡ axes = length-take-le axes bases (omega arith) in
         let whole : bases ≡ padded 6 (take axes bases) = padded-front 6 axes bases (h .size) most (h .blank) in
@@ -96,7 +95,7 @@ module _ (bytes : List ℕ) (axes : ℕ) {code at : ℕ} {ps ms : List ℕ} (h :
     sobol-tail b f = refuses-tail _ sobol code _ _ sobol-body z et b f
 
     pub sobol-end : t ≡ false → record { code = 0; family = 2; axes = axes; bases = replicate 6 0; polynomials = ps; ms = ms } ≡ sobolReading bytes axes
-    unfolding closed answerOf
+    unfolding answerOf
     sobol-end b =
         let arrays = h .flat z in
         rw (closes _ sobol code _ _ sobol-body z et, b, length-axes ps ms axes, ← arrays .polynomials, ← arrays .blocks) refl

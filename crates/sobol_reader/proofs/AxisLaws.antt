@@ -1,6 +1,6 @@
 -- Reading one Sobol axis: the test for a repeated polynomial, and the axis by the tests. Assumes nothing.
 use mathlib.Core.Path.{_≡_, refl, sym, ap, _∙_}
-use mathlib.Core.Bool.{Bool, true, false, _||_}
+use mathlib.Core.Bool.{Bool, true, false, _||_, or-false, or-true, or-assoc}
 use mathlib.Core.List.{List, [], _∷_, _++_}
 use Prim.Native.Nat.{ℕ, zero, suc, _+_, _-_, _<_, _≤_}
 use native.Mathlib.Omega.{arith}
@@ -21,23 +21,11 @@ use Rattle.plan.proofs.PartLaws.{field-value, step-stops}
 
 -- ---- a polynomial against those of the first n axes of arrays
 
-or-nil : (b : Bool) → b || false ≡ b
-or-nil true = refl
-or-nil false = refl
-
-or-true : (b : Bool) → b || true ≡ true
-or-true true = refl
-or-true false = refl
-
-or-assoc : (a b c : Bool) → a || (b || c) ≡ a || b || c
-or-assoc true b c = refl
-or-assoc false b c = refl
-
 repeated-snoc : (p : ℕ) (axes : List Axis) (x : Axis) → isRepeated p (axes ++ x ∷ []) ≡ isRepeated p axes || eqb p (x .polynomial)
 unfolding isRepeated
-repeated-snoc p [] x = or-nil (eqb p (x .polynomial))
+repeated-snoc p [] x = or-false (eqb p (x .polynomial))
 repeated-snoc p (y ∷ axes) x =
-    ap (λ (b : Bool). eqb p (y .polynomial) || b) (repeated-snoc p axes x) ∙ or-assoc (eqb p (y .polynomial)) (isRepeated p axes) (eqb p (x .polynomial))
+    ap (λ (b : Bool). eqb p (y .polynomial) || b) (repeated-snoc p axes x) ∙ sym (or-assoc (eqb p (y .polynomial)) (isRepeated p axes) (eqb p (x .polynomial)))
 
 -- p is among the first n polynomials exactly if it is among the first j, whatever the m's
 pub record RepeatedLoop (p : ℕ) (ps : List ℕ) (n j : ℕ) : Type 0 where
@@ -58,7 +46,7 @@ module _ {p : ℕ} {ps : List ℕ} {n k : ℕ} (inv : RepeatedLoop p ps n k) whe
     repeated-stop e ms = sym (last ms ∙ rw (eq-eqb p (getD ps j 0) e) (or-true (isRepeated p (axesOf ps ms j))))
 
     pub repeated-next : (p ≡ getD ps j 0 → ⊥) → RepeatedLoop p ps n j
-    repeated-next f = record { count = omega arith; same = λ ms. last ms ∙ rw (ne-eqb p (getD ps j 0) f) (or-nil (isRepeated p (axesOf ps ms j))) }
+    repeated-next f = record { count = omega arith; same = λ ms. last ms ∙ rw (ne-eqb p (getD ps j 0) f) (or-false (isRepeated p (axesOf ps ms j))) }
 
 -- ---- an axis of the reading, by the tests
 

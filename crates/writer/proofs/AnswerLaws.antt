@@ -14,7 +14,7 @@ use Rattle.plan.specs.Plan.{Plan, planBits, spell}
 use Rattle.plan.proofs.SpellingLaws.{length-spell, below-plan-bits}
 use Rattle.axes_writer.specs.Parts.{BitsPut}
 use Rattle.axes_writer.proofs.PartLaws.{put-then}
-use Rattle.writer.specs.Parts.{Written, writtenIf}
+use Rattle.writer.specs.Parts.{Written}
 
 -- the plan's bits were put into a buffer, and len is how many bytes they need
 module _ (p : Plan) {z b : List ℕ} {n : ℕ} (len : ℕ) (plan : BitsPut z b 0 (planBits p) n) (el : len ≡ bytesFor n) where
@@ -25,7 +25,6 @@ module _ (p : Plan) {z b : List ℕ} {n : ℕ} (len : ℕ) (plan : BitsPut z b 0
   same-length = length-spell p ∙ ap bytesFor (sym count) ∙ sym el
 
   pub no-room : (old : List ℕ) → length old < len → Written p old old 13 0
-  unfolding writtenIf
   no-room old h =
       let t : ltb (length old) (length (spell p)) ≡ true = lt-ltb (length old) (length (spell p)) (rw same-length h) in
       record { answer = rw t refl; reported = rw t refl; bytes = rw t refl }
@@ -33,7 +32,7 @@ module _ (p : Plan) {z b : List ℕ} {n : ℕ} (len : ℕ) (plan : BitsPut z b 0
   -- d is the buffer with zero bits after them
   pub has-room : {d old new : List ℕ} {end : ℕ} → BitsPut b d n (toBits (8 * len - n) 0) end → len ≤ length old → AllBelow 256 (take len d)
       → new ≡ overwrite old 0 (take len d) → Written p old new 0 len
-  unfolding writtenIf spell
+  unfolding spell
   has-room {d} {old} filling h bytes copied =
       let t : ltb (length old) (length (spell p)) ≡ false = le-ltb (length old) (length (spell p)) (rw same-length h) in
       let whole = put-then (omega arith) plan filling in

@@ -15,13 +15,12 @@ use Rattle.plan.specs.Answer.{answerOf, planAnswered}
 use Rattle.plan.specs.declared.PlanRead.{PlanRead}
 use Rattle.plan.proofs.AcceptLaws.{read-spelled}
 use Rattle.plan.proofs.AnswerLaws.{read-accepted}
-use Rattle.writer.specs.Parts.{noRoom, writtenIf, Written}
+use Rattle.writer.specs.Parts.{noRoom, Written}
 
 -- what was read and is written again is the same bytes, and nothing behind them changes
 pub write-after-read : (bytes old new : List ℕ) (a : PlanRead) (code len : ℕ) → AllBelow 256 bytes → a ≡ answerOf (readPlan bytes) → a .code ≡ 0
     → Written (planAnswered a) old new code len → length bytes ≤ length old
     → (code ≡ 0) × (len ≡ length bytes) × (new ≡ bytes ++ drop (length bytes) old)
-unfolding writtenIf
 write-after-read bytes old new a code len below e z w room =
     let s = read-accepted bytes below a e z .2 in
     let fits : noRoom (planAnswered a) old ≡ false = le-ltb (length old) (length (spell (planAnswered a))) (omega (arith, ap length s)) in
@@ -29,7 +28,6 @@ write-after-read bytes old new a code len below e z w room =
 
 -- what was written and is read again is the same plan
 pub read-after-write : (p : Plan) → Valid p → (old new : List ℕ) (len : ℕ) → Written p old new 0 len → readPlan (take len new) ≡ accepted p
-unfolding writtenIf
 read-after-write p v old new len w = go (noRoom p old) refl
   where
     go : (b : Bool) → noRoom p old ≡ b → readPlan (take len new) ≡ accepted p
