@@ -6,7 +6,7 @@ use lib.ListN.{length}
 use Rattle.bits.specs.Stream.{bitsOf, overwrite}
 
 -- a part was written: its bits stand from `start` on, all else as found, and `next` is the bit after it
-pub record Put (old new : List ℕ) (start : ℕ) (x : List ℕ) (next : ℕ) : Type 0 where
+pub record BitsPut (old new : List ℕ) (start : ℕ) (x : List ℕ) (next : ℕ) : Type 0 where
   pub bits : bitsOf new ≡ overwrite (bitsOf old) start x
   pub size : length new ≡ length old
   pub after : next ≡ start + length x

@@ -4,12 +4,12 @@ ghost use lib.ListN.{length, getD, take, drop};
 ghost use Rattle.binary.specs.Polynomial.{degreeOf};
 ghost use Rattle.plan.specs.Plan.{basesBits, msBits, axisBits, axesBits};
 ghost use Rattle.plan.specs.Answer.{axisAt, axesOf};
-ghost use Rattle.axes_writer.specs.Parts.{Put};
+ghost use Rattle.axes_writer.specs.Parts.{BitsPut};
 
 // The bases of `axes` Halton axes, from bit 5 on; gives the bit after them.
 pub fn put_bases(out: &mut [u8], bases: &[u64], axes: usize) -> usize
     requires { ⌜ (axes ≤ 6) × (axes ≤ length (now bases)) × (53 ≤ 8 * length (now out)) × ((k : ℕ) → k < axes → 1 ≤ getD (now bases) k 0) ⌝ }
-    ensures { λ r. ⌜ Put (now (out .entry)) (now (out .exit)) 5 (basesBits (take axes (now (bases .entry)))) r ⌝ }
+    ensures { λ r. ⌜ BitsPut (now (out .entry)) (now (out .exit)) 5 (basesBits (take axes (now (bases .entry)))) r ⌝ }
 {
     let mut i = 0;
     while i < axes {
@@ -22,7 +22,7 @@ pub fn put_bases(out: &mut [u8], bases: &[u64], axes: usize) -> usize
 // `degree` m's of one axis, from place `from` of the list; gives the bit after them.
 fn put_ms(out: &mut [u8], start: usize, ms: &[u64], from: usize, degree: usize) -> usize
     requires { ⌜ (degree ≤ 12) × (from + degree ≤ length (now ms)) × (start + 144 ≤ 8 * length (now out)) × (start < 2000) ⌝ }
-    ensures { λ r. ⌜ Put (now (out .entry)) (now (out .exit)) start (msBits 1 (take degree (drop from (now (ms .entry))))) r × (r ≤ start + 144) ⌝ }
+    ensures { λ r. ⌜ BitsPut (now (out .entry)) (now (out .exit)) start (msBits 1 (take degree (drop from (now (ms .entry))))) r × (r ≤ start + 144) ⌝ }
 {
     let mut at = start;
     let mut i = 0;
@@ -38,7 +38,7 @@ fn put_ms(out: &mut [u8], start: usize, ms: &[u64], from: usize, degree: usize) 
 fn put_axis(out: &mut [u8], start: usize, polynomials: &[u64], ms: &[u64], i: usize) -> usize
     requires { ⌜ (i < 6) × (i < length (now polynomials)) × (72 ≤ length (now ms)) × (degreeOf (getD (now polynomials) i 0) ≤ 12)
         × (start + 160 ≤ 8 * length (now out)) × (start < 1900) ⌝ }
-    ensures { λ r. ⌜ Put (now (out .entry)) (now (out .exit)) start (axisBits (axisAt (now (polynomials .entry)) (now (ms .entry)) i)) r × (r ≤ start + 160) ⌝ }
+    ensures { λ r. ⌜ BitsPut (now (out .entry)) (now (out .exit)) start (axisBits (axisAt (now (polynomials .entry)) (now (ms .entry)) i)) r × (r ≤ start + 160) ⌝ }
 {
     let p = polynomials[i];
     let d = sobol::degree(p);
@@ -52,7 +52,7 @@ fn put_axis(out: &mut [u8], start: usize, polynomials: &[u64], ms: &[u64], i: us
 pub fn put_axes(out: &mut [u8], polynomials: &[u64], ms: &[u64], axes: usize) -> usize
     requires { ⌜ (axes ≤ 6) × (axes ≤ length (now polynomials)) × (72 ≤ length (now ms)) × (965 ≤ 8 * length (now out))
         × ((k : ℕ) → k < axes → degreeOf (getD (now polynomials) k 0) ≤ 12) ⌝ }
-    ensures { λ r. ⌜ Put (now (out .entry)) (now (out .exit)) 5 (axesBits (axesOf (now (polynomials .entry)) (now (ms .entry)) axes)) r × (r ≤ 965) ⌝ }
+    ensures { λ r. ⌜ BitsPut (now (out .entry)) (now (out .exit)) 5 (axesBits (axesOf (now (polynomials .entry)) (now (ms .entry)) axes)) r × (r ≤ 965) ⌝ }
 {
     let mut at: usize = 5;
     let mut i: usize = 0;

@@ -12,7 +12,7 @@ use Rattle.numbers.specs.Listed.{padded}
 use Rattle.numbers.proofs.ListedLaws.{listed-length, padded-take}
 use Rattle.bits.specs.Stream.{toBits, bitsOf, overwrite}
 use Rattle.bits.proofs.StreamLaws.{to-bits-low, to-bits-split}
-use Rattle.bits.proofs.OverwriteLaws.{over-append, over-zero}
+use Rattle.bits.proofs.OverwriteLaws.{over-none, over-append}
 use Rattle.big_endian.specs.Bytes.{bytesOf, wordBytes, quadAt, windowIn}
 
 pub length-bytes : (k n : ℕ) → length (bytesOf k n) ≡ k
@@ -62,13 +62,13 @@ words-snoc words x = words-append words (x ∷ []) ∙ ap (λ (l : List ℕ). wo
 
 pub words-none : (old : List ℕ) → old ≡ overwrite old 0 (wordBytes [])
 unfolding wordBytes
-words-none old = over-zero old 0 []
+words-none old = over-none old 0
 
 pub words-next : (old words : List ℕ) (i at : ℕ) → i < length words → at ≡ 8 * i
     → overwrite (overwrite old 0 (wordBytes (take i words))) at (bytesOf 8 (getD words i 0)) ≡ overwrite old 0 (wordBytes (take (i + 1) words))
 words-next old words i at h e =
     let size : at ≡ 0 + length (wordBytes (take i words)) = omega (arith, length-words (take i words), length-take-le i words (omega arith)) in
-    over-append old 0 (wordBytes (take i words)) at (bytesOf 8 (getD words i 0)) (omega arith) size
+    over-append old 0 (wordBytes (take i words)) at (omega arith) size (bytesOf 8 (getD words i 0))
     ∙ ap (overwrite old 0) (sym (words-snoc (take i words) (getD words i 0)) ∙ ap wordBytes (rw (add-one, take-suc words i 0) refl))
 
 -- ---- the bytes spell the number

@@ -1,7 +1,7 @@
 -- Laws of arithmetic over two elements, for the crates above.
 pub mod XorLaws
 pub mod GrayLaws
-pub mod MixLaws
+pub mod CombinationLaws
 pub mod PolynomialLaws
 pub mod PowerLaws
 pub mod SquareLaws

@@ -18,7 +18,7 @@ use Rattle.binary.specs.Polynomial.{Degree, Divides, Primitive, timesX, 
 use Rattle.binary.specs.Power.{powerOfX}
 use Rattle.numbers.proofs.Cases.{lt-or-ge}
 use Rattle.binary.proofs.XorLaws.{xor-half, xor-assoc, xor-swap, xor-cancel, xor-eq-zero, xor-double}
-use Rattle.binary.proofs.MixLaws.{times-digit-xor, times-lt}
+use Rattle.binary.proofs.CombinationLaws.{times-digit-xor, times-lt}
 
 -- ---- the product, by halves; it is linear
 

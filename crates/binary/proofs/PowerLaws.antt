@@ -12,7 +12,7 @@ use Rattle.binary.specs.Polynomial.{Degree, timesX}
 use Rattle.binary.specs.Power.{powerOfX}
 use Rattle.numbers.proofs.Cases.{lt-or-ge}
 use Rattle.binary.proofs.XorLaws.{eq-halves, xor-half, xor-odd, xor-assoc, xor-swap, xor-double, xor-shl}
-use Rattle.binary.proofs.MixLaws.{times-lt, times-product}
+use Rattle.binary.proofs.CombinationLaws.{times-lt, times-product}
 use Rattle.binary.proofs.PolynomialLaws.{top-cancel, top-keep, timesX-less, timesX-more, timesX-lt, powerOfX-lt}
 
 -- a times the polynomial of the n lowest digits of b, modulo p

@@ -8,12 +8,12 @@ use native.Mathlib.Nat.{pow-suc}
 use lib.Arith.{lt-one}
 use lib.Pow.{pow-pos, pow-lt}
 use lib.Bits.{bitXor, xor-self}
-use Rattle.binary.specs.Gf2.{times, mix}
+use Rattle.binary.specs.Gf2.{times, combination}
 use Rattle.binary.specs.Polynomial.{Degree, timesX}
 use Rattle.binary.specs.Power.{powerOfX, Squares}
 use Rattle.numbers.proofs.Cases.{lt-or-ge}
 use Rattle.binary.proofs.XorLaws.{xor-half, xor-assoc, xor-swap, xor-cancel}
-use Rattle.binary.proofs.MixLaws.{times-digit-xor, mix-xor, mix-zero, mix-pow}
+use Rattle.binary.proofs.CombinationLaws.{times-digit-xor, combination-xor, combination-zero, combination-pow}
 use Rattle.binary.proofs.PolynomialLaws.{top-cancel, timesX-less, timesX-lt, powerOfX-lt}
 use Rattle.binary.proofs.PowerLaws.{timesDigits, mulMod, timesX-zero, timesX-xor, no-digits, mulMod-powers}
 
@@ -99,23 +99,23 @@ module _ (d p : ℕ) (hd : 1 ≤ d) (degree : Degree d p) where
   -- ---- the squares of 1, x, x^2 and so on give every square
 
   module _ (words : List ℕ) (squares : Squares d p words) where
-    square-picked : (a : ℕ) → a < 2 ^ d → mulMod d p a a ≡ mix words a
+    square-picked : (a : ℕ) → a < 2 ^ d → mulMod d p a a ≡ combination words a
     unfolding mulMod Squares
-    square-picked = by-digits d (λ a. mulMod d p a a ≡ mix words a) (no-digits (2 ^ d) p d 0 ∙ sym (mix-zero words)) more
+    square-picked = by-digits d (λ a. mulMod d p a a ≡ combination words a) (no-digits (2 ^ d) p d 0 ∙ sym (combination-zero words)) more
       where
         outer : (u v w : ℕ) → bitXor (bitXor u v) (bitXor v w) ≡ bitXor u w
         outer u v w = xor-assoc u v (bitXor v w) ∙ ap (bitXor u) (sym (xor-assoc v v w) ∙ ap (λ (z : ℕ). bitXor z w) (xor-self v))
 
-        more : (k a : ℕ) → k < d → a < 2 ^ k → mulMod d p a a ≡ mix words a → mulMod d p (bitXor a (2 ^ k)) (bitXor a (2 ^ k)) ≡ mix words (bitXor a (2 ^ k))
+        more : (k a : ℕ) → k < d → a < 2 ^ k → mulMod d p a a ≡ combination words a → mulMod d p (bitXor a (2 ^ k)) (bitXor a (2 ^ k)) ≡ combination words (bitXor a (2 ^ k))
         more k a hk ha e =
             let below : a < 2 ^ d = omega (arith, pow-lt {i = k} {j = d} hk) in
             digits-left d a (2 ^ k) (bitXor a (2 ^ k)) below (pow-lt hk)
             ∙ ap₂ bitXor (digits-right (2 ^ d) p d a a (2 ^ k) ∙ ap (bitXor (mulMod d p a a)) (commutes k hk a below)) (digits-right (2 ^ d) p d (2 ^ k) a (2 ^ k))
             ∙ outer (mulMod d p a a) (mulMod d p (2 ^ k) a) (mulMod d p (2 ^ k) (2 ^ k))
-            ∙ ap₂ bitXor e (product-of-digits k k hk hk ∙ ap (powerOfX (2 ^ d) p) (twice k) ∙ sym (squares k hk) ∙ sym (mix-pow words k))
-            ∙ sym (mix-xor words a (2 ^ k))
+            ∙ ap₂ bitXor e (product-of-digits k k hk hk ∙ ap (powerOfX (2 ^ d) p) (twice k) ∙ sym (squares k hk) ∙ sym (combination-pow words k))
+            ∙ sym (combination-xor words a (2 ^ k))
 
     -- the square of a power of x
-    pub power-squared : (e : ℕ) → mix words (powerOfX (2 ^ d) p e) ≡ powerOfX (2 ^ d) p (e * 2)
+    pub power-squared : (e : ℕ) → combination words (powerOfX (2 ^ d) p e) ≡ powerOfX (2 ^ d) p (e * 2)
     power-squared e =
         sym (square-picked (powerOfX (2 ^ d) p e) (powerOfX-lt d p hd degree e)) ∙ mulMod-powers d p hd degree e e ∙ ap (powerOfX (2 ^ d) p) (twice e)

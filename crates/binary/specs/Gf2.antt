@@ -1,4 +1,4 @@
--- Arithmetic over two elements: combinations of words, and the product of polynomials, which are numbers whose digit i is the coefficient
+-- Arithmetic over two elements: linear combinations of words, and the product of polynomials, which are numbers whose digit i is the coefficient
 -- of x^i. A sum is exclusive or. Definitions only.
 use Prim.Native.Nat.{ℕ, zero, suc, _*_, _/_, _%_}
 use mathlib.Core.List.{List, [], _∷_}
@@ -9,10 +9,10 @@ abbrev pub times : ℕ → ℕ → ℕ
 times zero v = zero
 times (suc d) v = v
 
--- the sum of the words that the digits of g pick, the lowest digit for the first word
-unfoldable pub mix : List ℕ → ℕ → ℕ
-mix [] g = zero
-mix (v ∷ vs) g = bitXor (times (g % 2) v) (mix vs (g / 2))
+-- the linear combination of the words with the digits of g, the lowest digit for the first word
+unfoldable pub combination : List ℕ → ℕ → ℕ
+combination [] g = zero
+combination (v ∷ vs) g = bitXor (times (g % 2) v) (combination vs (g / 2))
 
 -- The product of p and q, by the digits of q. The first number counts the digits still allowed.
 unfoldable pub productIn : ℕ → ℕ → ℕ → ℕ

@@ -1,10 +1,10 @@
-// Arithmetic over two elements: the sum of the words that a number's digits pick. The rest is laws.
+// Arithmetic over two elements: linear combinations of words. The rest is laws.
 ghost use mathlib.Core.Path.{_≡_};
-ghost use Rattle.binary.specs.Gf2.{mix};
+ghost use Rattle.binary.specs.Gf2.{combination};
 
-// The sum of the words that the digits of `g` pick, the lowest digit for the first word. It takes the same time for every `g`.
-pub fn mixed(words: &[u64], g: u64) -> u64
-    ensures { λ r. ⌜ r ≡ mix (now (words .entry)) g ⌝ }
+// The linear combination of the words with the digits of `g`, the lowest digit for the first word. It takes the same time for every `g`.
+pub fn combine(words: &[u64], g: u64) -> u64
+    ensures { λ r. ⌜ r ≡ combination (now (words .entry)) g ⌝ }
 {
     let mut digits = g;
     let mut x = 0;

@@ -1,60 +1,66 @@
--- Writing over a part of a list: two writes in a row are one, and a write may go element by element. Assumes nothing.
+-- Writing over a part of a list: two writes in a row are one, and a loop may write element by element. Assumes nothing.
 use mathlib.Core.Path.{_≡_, refl, sym, ap, ap₂, _∙_}
-use mathlib.Core.List.{List, [], _∷_, _++_, append-assoc, append-nil}
-use Prim.Native.Nat.{ℕ, suc, _+_, _<_, _≤_}
-use native.Mathlib.Nat.{add-zero}
+use mathlib.Core.List.{List, [], _++_, append-assoc}
+use Prim.Native.Nat.{ℕ, _+_, _<_, _≤_}
+use native.Mathlib.Nat.{zero-add, le-refl}
 use native.Mathlib.Numerals.{add-one}
 use native.Mathlib.Omega.{arith}
-use lib.ListN.{length, take, drop, getD, set, length-append, length-drop, length-take, take-append-drop}
-use lib.Seq.{set-at, take-suc, drop-cons, length-take-le, drop-drop, take-at, drop-at}
+use lib.ListN.{length, take, drop, getD, set, length-append, length-set}
+use lib.Seq.{take-length, drop-drop, paste, paste-zero, paste-suc, length-paste, take-paste, drop-paste}
 use Rattle.bits.specs.Stream.{overwrite}
 
-pub length-over : (l : List ℕ) (p : ℕ) (x : List ℕ) → p + length x ≤ length l → length (overwrite l p x) ≡ length l
+pub over-is : (l : List ℕ) (p : ℕ) (x : List ℕ) → overwrite l p x ≡ take p l ++ x ++ drop (p + length x) l
 unfolding overwrite
-length-over l p x h =
-    length-append (take p l ++ x) (drop (p + length x) l)
-    ∙ omega (arith, length-append (take p l) x, length-take p l, length-drop (p + length x) l)
+over-is l p x = rw take-length refl
 
--- two writes in a row are one
-pub over-append : (l : List ℕ) (p : ℕ) (x : List ℕ) (q : ℕ) (y : List ℕ) → p ≤ length l → q ≡ p + length x → overwrite (overwrite l p x) q y ≡ overwrite l p (x ++ y)
-unfolding overwrite
-over-append l p x q y h e =
-    let ep : length (take p l ++ x) ≡ q = length-append (take p l) x ∙ omega (arith, length-take p l) in
-    let en : p + length x + length y ≡ p + length (x ++ y) = omega (arith, length-append x y) in
-    let ed : drop (q + length y) (take p l ++ x ++ drop (p + length x) l) ≡ drop (p + length (x ++ y)) l =
-    sym (drop-drop (length y) q (take p l ++ x ++ drop (p + length x) l))
-    ∙ ap (drop (length y)) (drop-at (take p l ++ x) (drop (p + length x) l) q ep)
-    ∙ drop-drop (length y) (p + length x) l
-    ∙ ap (λ (n : ℕ). drop n l) en in
-    ap₂ (λ (a b : List ℕ). a ++ y ++ b) (take-at (take p l ++ x) (drop (p + length x) l) q ep) ed ∙ simp append-assoc
+module _ (l : List ℕ) (p : ℕ) where
+  pub over-none : l ≡ overwrite l p []
+  unfolding overwrite
+  over-none = paste-zero l p []
 
--- nothing written yet
-pub over-zero : (l : List ℕ) (p : ℕ) (x : List ℕ) → l ≡ overwrite l p (take 0 x)
-unfolding overwrite
-over-zero l p x = rw (append-nil, add-zero) (sym (take-append-drop p l))
+  pub length-over : (x : List ℕ) → p + length x ≤ length l → length (overwrite l p x) ≡ length l
+  unfolding overwrite
+  length-over x h = length-paste l p x (length x) h (le-refl (length x))
 
--- one more element
-pub over-next : (l : List ℕ) (p : ℕ) (x : List ℕ) (i b : ℕ) → i < length x → p + i < length l → b ≡ getD x i 0
-    → set (overwrite l p (take i x)) (p + i) b ≡ overwrite l p (take (i + 1) x)
-unfolding overwrite
-over-next l p x i b h k e =
-    let pre : List ℕ = take p l ++ take i x in
-    let d : List ℕ = drop (suc (p + i)) l in
-    let el : length (take i x) ≡ i = length-take-le i x (omega arith) in
-    let en : length (take (i + 1) x) ≡ i + 1 = length-take-le (i + 1) x (omega arith) in
-    let ep : length (take p l ++ take i x) ≡ p + i = length-append (take p l) (take i x) ∙ omega (arith, length-take p l, el) in
-    let et : take (i + 1) x ≡ take i x ++ (b ∷ []) = rw (add-one, take-suc x i 0, e) refl in
-    let es : p + (i + 1) ≡ suc (p + i) = omega arith in
-    ap (λ (n : ℕ). set (pre ++ drop (p + n) l) (p + i) b) el
-    ∙ ap (λ (t : List ℕ). set (pre ++ t) (p + i) b) (drop-cons l (p + i) 0 k)
-    ∙ set-at pre (getD l (p + i) 0) d b (p + i) ep
-    ∙ sym
-    (ap (λ (n : ℕ). take p l ++ take (i + 1) x ++ drop (p + n) l) en
-    ∙ ap₂ (λ (t : List ℕ) (n : ℕ). take p l ++ t ++ drop n l) et es
-    ∙ simp append-assoc)
+  module _ (x : List ℕ) (q : ℕ) (h : p ≤ length l) (e : q ≡ p + length x) where
+    pub take-over : take q (overwrite l p x) ≡ take p l ++ x
+    unfolding overwrite
+    take-over = rw e (take-paste l p x (length x) h (le-refl (length x)) ∙ rw take-length refl)
 
--- the same from the start of the list
-pub copy-next : (l x : List ℕ) (i : ℕ) → i < length x → i < length l → set (overwrite l 0 (take i x)) i (getD x i 0) ≡ overwrite l 0 (take (i + 1) x)
-copy-next l x i h k =
-    let e : i ≡ 0 + i = omega arith in
-    ap (λ (j : ℕ). set (overwrite l 0 (take i x)) j (getD x i 0)) e ∙ over-next l 0 x i (getD x i 0) h (omega arith) refl
+    pub drop-over : drop q (overwrite l p x) ≡ drop q l
+    unfolding overwrite
+    drop-over = rw e (drop-paste l p x (length x) h (le-refl (length x)))
+
+    -- two writes in a row are one
+    pub over-append : (y : List ℕ) → overwrite (overwrite l p x) q y ≡ overwrite l p (x ++ y)
+    over-append y =
+        let n : q + length y ≡ p + length (x ++ y) = omega (arith, length-append x y) in
+        let rest : drop (q + length y) (overwrite l p x) ≡ drop (p + length (x ++ y)) l =
+        sym (drop-drop (length y) q (overwrite l p x)) ∙ ap (drop (length y)) drop-over ∙ drop-drop (length y) q l ∙ ap (λ (k : ℕ). drop k l) n in
+        over-is (overwrite l p x) q y ∙ ap₂ (λ (a b : List ℕ). a ++ y ++ b) take-over rest
+        ∙ ap (λ (a : List ℕ). a ++ drop (p + length (x ++ y)) l) (append-assoc (take p l) x y) ∙ sym (over-is l p (x ++ y))
+
+-- from the start of the list
+pub over-start : (l x : List ℕ) (n : ℕ) → length x ≡ n → overwrite l 0 x ≡ x ++ drop n l
+over-start l x n e = over-is l 0 x ∙ ap (λ (k : ℕ). x ++ drop k l) (zero-add (length x) ∙ e)
+
+-- ---- element by element
+
+-- `new` has the first i elements of x from place `at` on, and all else as `old` has it
+pub record Copied (old : List ℕ) (at : ℕ) (x : List ℕ) (i : ℕ) (new : List ℕ) : Type 0 where
+  pub size : length new ≡ length old
+  pub is : new ≡ paste old at x i
+
+module _ (old : List ℕ) (at : ℕ) (x : List ℕ) where
+  pub copied-none : Copied old at x 0 old
+  copied-none = record { size = refl; is = paste-zero old at x }
+
+  -- the next one is stored at place p
+  pub copied-next : {new : List ℕ} (i p b : ℕ) → i < length x → p < length old → p ≡ at + i → b ≡ getD x i 0 → Copied old at x i new
+      → Copied old at x (i + 1) (set new p b)
+  copied-next {new} i p b h k ep eb c =
+      record { size = length-set new p b ∙ c .size; is = rw (c .is, ep, eb, add-one) (paste-suc old at x i 0 (omega arith) h) }
+
+  pub copied-all : {new : List ℕ} (i : ℕ) → i ≡ length x → Copied old at x i new → new ≡ overwrite old at x
+  unfolding overwrite
+  copied-all i e c = c .is ∙ ap (paste old at x) e

@@ -8,6 +8,7 @@ use native.Mathlib.Omega.{arith}
 use lib.ListN.{length, take, drop, replicate, length-append, length-drop, length-replicate}
 use lib.Seq.{take-at, drop-at, take-nil, take-append-add}
 use Rattle.bits.specs.Stream.{toBits, ofBits, bitsOf, AllBelow, overwrite, bytesFor, pack, packed}
+use Rattle.bits.proofs.OverwriteLaws.{take-over}
 use Rattle.bits.proofs.StreamLaws.{length-to-bits, length-bits, of-bits-to-bits, to-bits-front, to-bits-zero, of-bits-take-lt, below-append, below-drop, below-zeros}
 
 -- ---- the bits of the first bytes
@@ -119,14 +120,12 @@ packed-unique bs l h hb = (to, from)
 -- is the front of the bytes
 pub packed-front : (l old new : List ℕ) (n : ℕ) → AllBelow 2 l → AllBelow 256 (take (bytesFor n) new) → n ≡ length l
     → bitsOf new ≡ overwrite (bitsOf old) 0 (l ++ toBits (8 * bytesFor n - n) 0) → take (bytesFor n) new ≡ packed l
-unfolding overwrite
 packed-front l old new n h hn en e =
-    let x : List ℕ = l ++ toBits (8 * bytesFor n - n) 0 in
     let es : bitsOf (packed l) ≡ l ++ toBits (8 * bytesFor n - n) 0 = bits-packed-field l h n en in
     let lx : length (l ++ toBits (8 * bytesFor n - n) 0) ≡ 8 * bytesFor n =
     sym (ap length es) ∙ length-bits (packed l) ∙ ap (λ (k : ℕ). 8 * k) (length-packed l ∙ ap bytesFor (sym en)) in
     bits-inj (take (bytesFor n) new) (packed l) hn (below-packed l h)
     (bits-take (bytesFor n) new
     ∙ ap (take (8 * bytesFor n)) e
-    ∙ take-at x (drop (0 + length x) (bitsOf old)) (8 * bytesFor n) lx
+    ∙ take-over (bitsOf old) 0 (l ++ toBits (8 * bytesFor n - n) 0) (8 * bytesFor n) (omega arith) (omega arith)
     ∙ sym es)

@@ -7,7 +7,7 @@ use native.Mathlib.Nat.{add-mul-div-right, add-comm, mul-assoc, mul-comm, pow-su
 use native.Mathlib.Numerals.{add-one, one-add}
 use native.Mathlib.Omega.{arith}
 use lib.ListN.{length, take, drop, getD, replicate, length-append, length-take, length-drop, take-append-drop, List·getD-append}
-use lib.Seq.{take-suc, take-all, getD-drop, getD-append-add, length-take-le}
+use lib.Seq.{take-suc, getD-drop, getD-append-add, length-take-le}
 use lib.Pow.{pow-pos, pow-mono, mod-pow-add, pow-add, shr-shr, high, split}
 use lib.Arith.{digits-lt}
 use Rattle.numbers.proofs.Cases.{lt-or-ge}
@@ -24,9 +24,6 @@ pub length-bits : (bs : List ℕ) → length (bitsOf bs) ≡ 8 * length bs
 unfolding bitsOf
 length-bits [] = refl
 length-bits (b ∷ bs) = omega (arith, length-append (toBits 8 b) (bitsOf bs), length-to-bits 8 b, length-bits bs)
-
-pub take-to-bits : (w n : ℕ) → take w (toBits w n) ≡ toBits w n
-take-to-bits w n = take-all w (toBits w n) (omega (arith, length-to-bits w n))
 
 -- ---- every element below a number
 

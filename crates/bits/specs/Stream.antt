@@ -2,6 +2,7 @@
 use mathlib.Core.List.{List, [], _∷_, _++_}
 use Prim.Native.Nat.{ℕ, zero, suc, _+_, _-_, _*_, _/_, _%_, _^_, _<_}
 use lib.ListN.{length, take, drop, getD, replicate}
+use lib.Seq.{paste}
 
 -- the w low bits of n, most significant first
 unfoldable pub toBits : ℕ → ℕ → List ℕ
@@ -31,9 +32,9 @@ unfoldable pub AllBelow : ℕ → List ℕ → Type 0
 AllBelow m [] = Unit {0}
 AllBelow m (b ∷ l) = (b < m) × AllBelow m l
 
--- the list with x in place of what stands from p on
+-- the list with x in place of what stands from p on: the kit's `paste` of all of x, so that two in a row are one
 unfoldable pub overwrite : List ℕ → ℕ → List ℕ → List ℕ
-overwrite l p x = take p l ++ x ++ drop (p + length x) l
+overwrite l p x = paste l p x (length x)
 
 -- ---- bits as bytes, zero bits filling the last
 

@@ -14,7 +14,7 @@ use Rattle.plan.proofs.AnswerLaws.{read-accepted}
 use Rattle.plan.specs.Order.{firstDue, unlessDue}
 use Rattle.points.specs.Point.{pointOf, slotOf}
 use Rattle.points.specs.Run.{Run, runOf, inRange, runPoint, runPoints}
-use Rattle.writer.specs.Parts.{noRoom, writtenIf, Written}
+use Rattle.writer.specs.Parts.{noRoom, Written}
 use Rattle.writer.specs.declared.PlanWritten.{PlanWritten}
 use Rattle.state.specs.State.{made, blank, planIn, runIn, genuine}
 use Rattle.state.specs.declared.Sampler.{Sampler}
@@ -65,7 +65,7 @@ module _ (s : Sampler) (buf : List ℕ) where
 
     -- what the writer of plans answers
     pub write-as-written : (r : PlanWritten) (new : List ℕ) → Written (planIn s) buf new (r .code) (r .len) → (r ≡ writeSpec s buf) × (new ≡ writeBuf s buf)
-    unfolding writeSpec writeBuf firstDue unlessDue writtenIf
+    unfolding writeSpec writeBuf firstDue unlessDue
     write-as-written r new w = go (noRoom (planIn s) buf) refl
       where
         go : (b : Bool) → noRoom (planIn s) buf ≡ b → (r ≡ writeSpec s buf) × (new ≡ writeBuf s buf)

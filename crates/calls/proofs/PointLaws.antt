@@ -5,8 +5,10 @@ use mathlib.Core.List.{List, _++_}
 use Prim.Native.Nat.{ℕ, _+_, _*_, _/_, _^_, _≤_, _<_, min}
 use native.Mathlib.Nat.{le-trans, mul-le-mul-right, div-mul-le-self, min-le-left, min-le-right}
 use native.Mathlib.Omega.{arith}
-use lib.ListN.{take, drop}
+use lib.ListN.{length, take, drop}
 use Rattle.numbers.proofs.ListedLaws.{padded-take}
+use Rattle.bits.specs.Stream.{overwrite}
+use Rattle.bits.proofs.OverwriteLaws.{over-start}
 use Rattle.plan.specs.Plan.{Plan, Valid}
 use Rattle.points.specs.Point.{axisCount, numeratorOf, denominatorOf, pointOf}
 use Rattle.points.specs.Run.{inRange, runPoint, runPoints}
@@ -42,14 +44,19 @@ module _ (s : Sampler) (g : genuine s ≡ true) where
   point-front n =
       ap (take (s .axes)) (genuine-point is n) ∙ padded-take 6 (pointOf (planIn s) n) (s .axes) (point-of-length (planIn s) n ∙ sym axes-are)
 
-  -- a point put at the front of a buffer: of any index, and the one of the run's step t
+  -- the front of such words, put at the front of a buffer: the point of any index, and that of the run's step t
   pub point-put : (buf new x : List ℕ) (n : ℕ) → x ≡ pointAt (s .family) (s .axes) (s .bases) (s .directions) n
-      → new ≡ take 0 buf ++ take (s .axes) x ++ drop (0 + s .axes) buf → new ≡ pointOf (planIn s) n ++ drop (s .axes) buf
-  point-put buf new x n e put = let z : 0 + s .axes ≡ s .axes = omega arith in put ∙ rw (e, point-front n, z) refl
+      → new ≡ overwrite buf 0 (take (s .axes) x) → new ≡ pointOf (planIn s) n ++ drop (s .axes) buf
+  point-put buf new x n e put =
+      put ∙ rw (e, point-front n) (over-start buf (pointOf (planIn s) n) (s .axes) (point-of-length (planIn s) n ∙ sym axes-are))
 
   pub step-put : (buf new x : List ℕ) (t : ℕ) → x ≡ pointAt (s .family) (s .axes) (s .bases) (s .directions) (s .start + t)
-      → new ≡ take 0 buf ++ take (s .axes) x ++ drop (0 + s .axes) buf → new ≡ runPoint (planIn s) (runIn s) t ++ drop (s .axes) buf
+      → new ≡ overwrite buf 0 (take (s .axes) x) → new ≡ runPoint (planIn s) (runIn s) t ++ drop (s .axes) buf
   step-put buf new x t e put = point-put buf new x (s .start + t) e put ∙ rw (run-point (planIn s) (runIn s) t) refl
+
+  -- and how long it is
+  pub front-long : (x : List ℕ) (n : ℕ) → x ≡ pointAt (s .family) (s .axes) (s .bases) (s .directions) n → length (take (s .axes) x) ≡ s .axes
+  front-long x n e = ap (λ (l : List ℕ). length (take (s .axes) l)) e ∙ ap length (point-front n) ∙ point-of-length (planIn s) n ∙ sym axes-are
 
   -- points put one after another, from step t on
   pub points-put : (buf new : List ℕ) (t k : ℕ) → new ≡ pointsAt (s .family) (s .axes) (s .bases) (s .directions) (s .start + t) k ++ drop (k * s .axes) buf

@@ -16,7 +16,7 @@ use Rattle.plan.proofs.AnswerLaws.{read-accepted}
 use Rattle.state.specs.State.{both, msIn, planIn, runIn, permitted, samePlan, sameRun, sameState, made, genuineBy, genuine}
 use Rattle.state.specs.declared.Sampler.{Sampler}
 use Rattle.state.proofs.GenuineLaws.{Genuine, genuine-is}
-use Rattle.writer.specs.Parts.{Writable, noRoom, writtenIf, Written}
+use Rattle.writer.specs.Parts.{Writable, noRoom, Written}
 use Rattle.comparison.proofs.WordLaws.{is-false}
 use Rattle.spellable.proofs.SpellableLaws.{writable-in}
 
@@ -33,7 +33,6 @@ pub record Front (p : Plan) (new : List ℕ) (len : ℕ) : Type 0 where
   pub within : len ≤ length new
 
 pub written-front : (p : Plan) {old new : List ℕ} {code len : ℕ} → Written p old new code len → code ≡ 0 → Front p new len
-unfolding writtenIf
 written-front p {old} {new} {code} {len} w z = go (noRoom p old) refl
   where
     go : (b : Bool) → noRoom p old ≡ b → Front p new len

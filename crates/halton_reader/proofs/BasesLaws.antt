@@ -12,7 +12,7 @@ use borrow.Author.Tests.{eq-eqb, ne-eqb}
 use Rattle.numbers.specs.Gcd.{gcd}
 use Rattle.bits.specs.Stream.{ofBits, bitsOf, fieldAt}
 use Rattle.plan.specs.Reading.{refuse, refuseIf, field, sharesFactor, readBases}
-use Rattle.halton_reader.specs.Bases.{BasesSay}
+use Rattle.halton_reader.specs.Bases.{BasesAnswer}
 use Rattle.plan.proofs.BlankLaws.{drop-zeros, blank-set}
 use Rattle.plan.proofs.PartLaws.{long-field, field-value}
 
@@ -80,14 +80,14 @@ bases-start bytes axes h =
 
 -- number n is right for the answer of `no_bases`
 abbrev pub BasesStop : List ℕ → ℕ → ℕ → Type 0
-BasesStop bytes axes n = (code at : ℕ) (bases : List ℕ) → (code ≡ n) × (at ≡ 0) × (bases ≡ replicate 6 0) → BasesSay bytes axes code at bases
+BasesStop bytes axes n = (code at : ℕ) (bases : List ℕ) → (code ≡ n) × (at ≡ 0) × (bases ≡ replicate 6 0) → BasesAnswer bytes axes code at bases
 
 bases-refused : (bytes : List ℕ) (axes n : ℕ) → readBases axes [] (drop 5 (bitsOf bytes)) ≡ refuse (suc n) → BasesStop bytes axes (suc n)
 bases-refused bytes axes n e code at bases f =
     rw (f .0, f .1, f .2) (record { step = e; blank = drop-zeros 6 axes; size = refl; within = omega arith; near = omega arith })
 
 module _ {bytes : List ℕ} {axes : ℕ} {bases : List ℕ} {at i : ℕ} (inv : BasesLoop bytes axes bases at i) (most : axes ≤ 6) where
-  pub bases-end : axes ≤ i → BasesSay bytes axes 0 at bases
+  pub bases-end : axes ≤ i → BasesAnswer bytes axes 0 at bases
   unfolding readBases
   bases-end h =
       let e : i ≡ axes = omega arith in

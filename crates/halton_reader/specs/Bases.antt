@@ -9,7 +9,7 @@ use Rattle.plan.specs.Reading.{readBases}
 use Rattle.plan.specs.Answer.{stepOf}
 
 -- the bases of so many axes, from bit 5
-pub record BasesSay (bytes : List ℕ) (axes code at : ℕ) (bases : List ℕ) : Type 0 where
+pub record BasesAnswer (bytes : List ℕ) (axes code at : ℕ) (bases : List ℕ) : Type 0 where
   pub step : readBases axes [] (drop 5 (bitsOf bytes)) ≡ stepOf code (take axes bases) (drop at (bitsOf bytes))
   pub blank : drop axes bases ≡ replicate (6 - axes) 0
   pub size : length bases ≡ 6

@@ -4,7 +4,7 @@ ghost use mathlib.Core.Path.{_≡_};
 ghost use Prim.Native.Nat.{_+_, _*_, _≤_};
 ghost use lib.ListN.{length, take, replicate};
 ghost use Rattle.plan.specs.Reading.{sharesFactor};
-ghost use Rattle.halton_reader.specs.Bases.{BasesSay};
+ghost use Rattle.halton_reader.specs.Bases.{BasesAnswer};
 
 // Whether `b` is not coprime to one of the first `n` bases.
 fn shares_factor(b: u64, bases: &[u64], n: usize) -> bool
@@ -41,7 +41,7 @@ fn no_bases(code: u64) -> BasesRead
 // The bases of `axes` Halton axes, from bit 5 on.
 pub fn read_bases(bytes: &[u8], axes: usize) -> BasesRead
     requires { ⌜ (5 ≤ 8 * length (now bytes)) × (axes ≤ 6) ⌝ }
-    ensures { λ r. ⌜ BasesSay (now (bytes .entry)) axes (r .code) (r .at) (r .bases) ⌝ }
+    ensures { λ r. ⌜ BasesAnswer (now (bytes .entry)) axes (r .code) (r .at) (r .bases) ⌝ }
 {
     let mut bases = [0u64; 6];
     let mut at: usize = 5;

@@ -1,11 +1,12 @@
 -- Each answer of each call, from the tests that lead to it; and what putting a plan's point leaves. Assumes nothing.
 use mathlib.Core.Path.{_≡_, refl, sym, ap, _∙_}
 use mathlib.Core.List.{List, _++_}
-use Prim.Native.Nat.{ℕ, _+_, _*_}
+use Prim.Native.Nat.{ℕ, _*_}
 use native.Mathlib.Omega.{arith}
 use lib.ListN.{length, take, drop}
 use Rattle.numbers.proofs.ListedLaws.{padded-take}
 use Rattle.bits.specs.Stream.{AllBelow, overwrite}
+use Rattle.bits.proofs.OverwriteLaws.{over-start}
 use Rattle.plan.specs.Plan.{Plan, Valid}
 use Rattle.plan.specs.Reading.{refused, accepted, readPlan}
 use Rattle.plan.specs.Answer.{answerOf, planAnswered, Accepted}
@@ -36,12 +37,10 @@ accepted-axes {a} h = accepted-holds h (directionsArray (planAnswered a)) refl .
 
 pub point-put : {p : Plan} {family axes : ℕ} {bases vs : List ℕ} → Holds p family axes bases vs → Valid p → (n : ℕ) (old new x : List ℕ)
     → x ≡ pointAt family axes bases vs n → new ≡ overwrite old 0 (wordBytes (take axes x)) → new ≡ wordBytes (pointOf p n) ++ drop (8 * axes) old
-unfolding overwrite
 point-put {p} {axes = axes} h v n old new x e put =
     let long : length (pointOf p n) ≡ axes = point-of-length p n ∙ sym (h .axes-is) in
     let front : take axes x ≡ pointOf p n = ap (take axes) (e ∙ holds-point h v n) ∙ padded-take 6 (pointOf p n) axes long in
-    let size : 0 + length (wordBytes (pointOf p n)) ≡ 8 * axes = omega (arith, length-words (pointOf p n), long) in
-    put ∙ rw (front, size) refl
+    put ∙ rw front (over-start old (wordBytes (pointOf p n)) (8 * axes) (omega (arith, length-words (pointOf p n), long)))
 
 -- ---- the C point
 

@@ -3,13 +3,14 @@
 use mathlib.Core.Path.{_≡_, refl, sym, ap, _∙_}
 use mathlib.Core.Bool.{true, false, and-eq-true-iff}
 use mathlib.Core.List.{List, [], _∷_, _++_}
-use Prim.Native.Nat.{ℕ, _+_, _*_}
+use Prim.Native.Nat.{ℕ, _*_}
 use native.Mathlib.Omega.{arith}
 use lib.Dec.{eqb}
 use lib.ListN.{length, drop}
 use borrow.Author.Tests.{eq-eqb, ne-eqb, eqb-true}
 use Rattle.numbers.specs.Count.{count}
 use Rattle.bits.specs.Stream.{overwrite}
+use Rattle.bits.proofs.OverwriteLaws.{over-start}
 use Rattle.plan.specs.Plan.{Plan, Valid}
 use Rattle.plan.specs.Reading.{refused, accepted, readPlan}
 use Rattle.plan.specs.Order.{firstDue}
@@ -46,12 +47,11 @@ module _ (bytes : List ℕ) (s : ℕ) where
 pub count-put : {p : Plan} {family axes : ℕ} {bases vs : List ℕ} → Holds p family axes bases vs → Valid p → (r : Run) (window old new w : List ℕ) (inside bound : ℕ)
     → w ≡ windowIn window axes → inside ≡ count (insideFrom family bases vs w axes (r .start)) (r .count) → bound ≡ boundBy (eqb family 2) bases (r .count) axes
     → new ≡ overwrite old 0 (wordBytes (inside ∷ bound ∷ [])) → new ≡ wordBytes (answersOf p r window) ++ drop 16 old
-unfolding overwrite answersOf
+unfolding answersOf
 count-put {p} {axes = axes} h v r window old new w inside bound e i b put =
     let first = i ∙ count-held p (h .family-is) (h .axes-is) (h .bases-is) v (h .directions-is) w r in
     let second = b ∙ bound-held p (h .family-is) (h .axes-is) (h .bases-is) v (r .count) in
-    let size : 0 + length (wordBytes (inside ∷ bound ∷ [])) ≡ 16 = omega (arith, length-words (inside ∷ bound ∷ [])) in
-    put ∙ rw (size, first, second, e, h .axes-is) refl
+    put ∙ over-start old (wordBytes (inside ∷ bound ∷ [])) 16 (length-words (inside ∷ bound ∷ [])) ∙ rw (first, second, e, h .axes-is) refl
 
 -- ---- the C window count
 

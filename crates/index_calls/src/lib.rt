@@ -30,7 +30,7 @@ pub fn jump(s: Sampler, n: u64, out: &mut [u64]) -> Jumped
     let bases = s.bases;
     let directions = s.directions;
     let x = points::point(s.family, axes, &bases, &directions, n);
-    points::put_point(out, 0, x, axes);
+    bits::store(out, 0, &x[..axes]);
     Jumped { code: 0 }
 }
 

@@ -1,7 +1,7 @@
 -- A plan is accepted exactly where it is valid and the bytes are its spelling; so each valid plan has one spelling, and each spelling one plan.
 -- A refusal is due where it is given. Assumes nothing.
 use mathlib.Core.Path.{_≡_, refl, sym, ap, _∙_, subst}
-use mathlib.Core.Bool.{Bool, true, false}
+use mathlib.Core.Bool.{Bool, true, false, cond}
 use mathlib.Core.List.{List}
 use mathlib.Core.Logic.{_↔_}
 use Prim.Native.Nat.{ℕ, _-_, _*_, _<_}
@@ -11,22 +11,20 @@ use Rattle.bits.specs.Stream.{bitsOf, AllBelow, bytesFor}
 use Rattle.bits.proofs.StreamLaws.{below-bits, below-right, of-bits-zeros, zeros-of-bits}
 use Rattle.bits.proofs.PackLaws.{filling-lt, bits-packed, packed-bits}
 use Rattle.plan.specs.Plan.{Plan, Valid, planBits, spell}
-use Rattle.plan.specs.Reading.{Step, refused, accepted, badTail, closed, finish, readPlan}
+use Rattle.plan.specs.Reading.{Step, refused, accepted, badTail, finish, readPlan}
 use Rattle.plan.specs.Refusals.{Refusal, badEnding}
 use Rattle.plan.proofs.TestLaws.{tail-good, good-tail, tail-bad}
 use Rattle.plan.proofs.SpellingLaws.{below-plan-bits}
 use Rattle.plan.proofs.SoundLaws.{Sound, stops, goes, PlanSpelled, fields-sound}
 use Rattle.plan.proofs.FrontLaws.{plan-front}
 
-closed-accepted : (b : Bool) (p q : Plan) → closed b p ≡ accepted q → (b ≡ false) × (p ≡ q)
-unfolding closed
-closed-accepted true p q e = let z : _≡_ {A = ℕ} 0 1 = cc in absurd (omega arith)
-closed-accepted false p q e = (refl, cc)
+end-accepted : (b : Bool) (p q : Plan) → cond b (refused 10) (accepted p) ≡ accepted q → (b ≡ false) × (p ≡ q)
+end-accepted true p q e = let z : _≡_ {A = ℕ} 0 1 = cc in absurd (omega arith)
+end-accepted false p q e = (refl, cc)
 
-closed-refused : (b : Bool) (p : Plan) (n : ℕ) → closed b p ≡ refused n → (b ≡ true) × (10 ≡ n)
-unfolding closed
-closed-refused true p n e = (refl, cc)
-closed-refused false p n e = let z : _≡_ {A = ℕ} 0 1 = cc in absurd (omega arith)
+end-refused : (b : Bool) (p : Plan) (n : ℕ) → cond b (refused 10) (accepted p) ≡ refused n → (b ≡ true) × (10 ≡ n)
+end-refused true p n e = (refl, cc)
+end-refused false p n e = let z : _≡_ {A = ℕ} 0 1 = cc in absurd (omega arith)
 
 module _ (bits : List ℕ) (below : AllBelow 2 bits) where
   rest-below : {p : Plan} {l : List ℕ} → PlanSpelled bits below p l → AllBelow 2 l
@@ -36,13 +34,13 @@ module _ (bits : List ℕ) (below : AllBelow 2 bits) where
       → (l : List ℕ) × PlanSpelled bits below p l × (badTail l ≡ false)
   unfolding finish
   accepted-of (stops h) p e = let z : _≡_ {A = ℕ} 0 1 = cc in absurd (omega arith)
-  accepted-of (goes {a} {l} h) p e = let w = closed-accepted (badTail l) a p e in (l, rw (w .1) at h, w .0)
+  accepted-of (goes {a} {l} h) p e = let w = end-accepted (badTail l) a p e in (l, rw (w .1) at h, w .0)
 
   refusal-of : {s : Step Plan} → Sound bits below (PlanSpelled bits below) s → (n : ℕ) → finish s ≡ refused n → Refusal bits n
   unfolding finish
   refusal-of (stops {n} h) m e = let same : n ≡ m = cc in rw same at h
   refusal-of (goes {a} {l} h) m e =
-      let w = closed-refused (badTail l) a m e in
+      let w = end-refused (badTail l) a m e in
       rw (w .1) at (badEnding a l (h .valid) (tail-bad l (rest-below h) (w .0)) (h .spelled))
 
 -- a refusal that is given is due
@@ -60,7 +58,7 @@ accepted-right bytes h p e =
 
 -- a valid plan's spelling is accepted as that plan
 pub read-spelled : (p : Plan) → Valid p → readPlan (spell p) ≡ accepted p
-unfolding readPlan spell finish closed
+unfolding readPlan spell finish
 read-spelled p v =
     let k : ℕ = 8 * bytesFor (length (planBits p)) - length (planBits p) in
     let few : length {A = ℕ} (replicate k 0) < 8 = rw length-replicate (filling-lt (length (planBits p))) in

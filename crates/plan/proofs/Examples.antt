@@ -7,7 +7,7 @@ use Rattle.numbers.specs.Gcd.{gcd, gcdIn}
 use Rattle.binary.specs.Polynomial.{timesX, onlyLast, isPrimitive}
 use Rattle.bits.specs.Stream.{toBits, ofBits, bitsOf}
 use Rattle.plan.specs.Plan.{halton, sobol}
-use Rattle.plan.specs.Reading.{refuseIf, field, andThen, sharesFactor, readBases, polynomialOf, isRepeated, readMs, readAxis, readAxes, readBody, readFields, Reading, refused, accepted, closed, finish, readPlan}
+use Rattle.plan.specs.Reading.{refuseIf, field, andThen, sharesFactor, readBases, polynomialOf, isRepeated, readMs, readAxis, readAxes, readBody, readFields, Reading, refused, accepted, finish, readPlan}
 
 record Row : Type 0 where
   bytes : List ℕ
@@ -46,5 +46,5 @@ rows =
     ∷ []
 
 rows-read : map (λ r. readPlan (r .bytes)) rows ≡ map (λ r. r .reading) rows
-unfolding toBits ofBits bitsOf gcd gcdIn timesX onlyLast isPrimitive refuseIf field andThen sharesFactor readBases polynomialOf isRepeated readMs readAxis readAxes readBody readFields closed finish readPlan row
+unfolding toBits ofBits bitsOf gcd gcdIn timesX onlyLast isPrimitive refuseIf field andThen sharesFactor readBases polynomialOf isRepeated readMs readAxis readAxes readBody readFields finish readPlan row
 rows-read = refl

@@ -15,7 +15,7 @@ use Rattle.sobol.specs.Directions.{OddBelow, AllOddBelow}
 use Rattle.bits.specs.Stream.{toBits}
 use Rattle.plan.specs.Plan.{Axis, noAxis, Plan, halton, sobol, ValidBases, ValidAxis, ValidAxes, OneToSix, Valid, headerBits, basesBits, msBits, axisBits, axesBits, planBits}
 use Rattle.plan.specs.Reading.{Step, got, refuseIf, field, andThen, readBases, notPrimitive, isRepeated, readMs, readAxis, readAxes, readBody, readFields}
-use Rattle.plan.specs.Refusals.{New, Fit}
+use Rattle.plan.specs.Refusals.{NotAmong, ValidPolynomial}
 use Rattle.plan.proofs.PlaceLaws.{length-snoc, places-middle, pairs-middle}
 use Rattle.plan.proofs.TestLaws.{no-shared-factor-iff, not-repeated-iff, polynomial-of-bits, primitive-iff, axes-range-iff}
 use Rattle.plan.proofs.ValidLaws.{Differ}
@@ -62,7 +62,7 @@ pub polynomial-front : (earlier : List Axis) (d p : ℕ) (l : List ℕ) → Degr
     ≡ refuseIf (notPrimitive d p) 7 (refuseIf (isRepeated p earlier) 9 (andThen (readMs d 1 [] l) (afterMs p)))
 polynomial-front earlier d p l g o = field-low (d - 1) (p / 2) l _ ∙ rw (polynomial-of-bits d p g o) refl
 
-module _ (earlier : List Axis) (d p : ℕ) (fit : Fit d p) (new : New p earlier) where
+module _ (earlier : List Axis) (d p : ℕ) (fit : ValidPolynomial d p) (new : NotAmong p earlier) where
   pub coefficients-front : (l : List ℕ) → field (d - 1) (toBits (d - 1) (p / 2) ++ l) (afterCoefficients earlier d) ≡ andThen (readMs d 1 [] l) (afterMs p)
   coefficients-front l =
       polynomial-front earlier d p l (fit .degree) (fit .constant)
@@ -74,13 +74,13 @@ module _ (earlier : List Axis) (d p : ℕ) (fit : Fit d p) (new : New p earlier)
       degree-front earlier d _ (fit .degree-high) ∙ coefficients-front (msBits 1 ms ++ l)
       ∙ ap (λ (s : Step (List ℕ)). andThen s (afterMs p)) (ap (λ (n : ℕ). readMs n 1 [] (msBits 1 ms ++ l)) (sym e) ∙ ms-front k 1 ms [] l refl h)
 
-pub fit-of : {x : Axis} → ValidAxis x → Fit (length (x .ms)) (x .polynomial)
-fit-of v = record { degree-high = v .degree-high; degree = v .degree; constant = v .constant; primitive = v .primitive }
+pub axis-polynomial : {x : Axis} → ValidAxis x → ValidPolynomial (length (x .ms)) (x .polynomial)
+axis-polynomial v = record { degree-high = v .degree-high; degree = v .degree; constant = v .constant; primitive = v .primitive }
 
-pub axis-front : (earlier : List Axis) (x : Axis) (l : List ℕ) → ValidAxis x → New (x .polynomial) earlier → readAxis earlier (axisBits x ++ l) ≡ got x l
+pub axis-front : (earlier : List Axis) (x : Axis) (l : List ℕ) → ValidAxis x → NotAmong (x .polynomial) earlier → readAxis earlier (axisBits x ++ l) ≡ got x l
 unfolding axisBits andThen readMs
 axis-front earlier x l v new =
-    simp append-assoc (given-front earlier (length (x .ms)) (x .polynomial) (fit-of v) new 0 (x .ms) l (add-zero (length (x .ms))) (v .given))
+    simp append-assoc (given-front earlier (length (x .ms)) (x .polynomial) (axis-polynomial v) new 0 (x .ms) l (add-zero (length (x .ms))) (v .given))
 
 pub axes-front : (k : ℕ) (more earlier : List Axis) (l : List ℕ) → ValidAxes (earlier ++ more)
     → readAxes (length more + k) earlier (axesBits more ++ l) ≡ readAxes k (earlier ++ more) l

@@ -1,6 +1,6 @@
 -- A reading is refused with a number exactly where that refusal is due: the fields before are right, so the reading arrives at the field or
 -- the tail whose rule is broken. Assumes nothing.
-use mathlib.Core.Path.{_≡_, refl, _∙_}
+use mathlib.Core.Path.{_≡_, refl, sym, _∙_}
 use mathlib.Core.Bool.{true}
 use mathlib.Core.List.{List, [], _++_, append-assoc}
 use mathlib.Core.Logic.{_↔_, _⊎_, ⊎-elim}
@@ -9,9 +9,9 @@ use native.Mathlib.Omega.{arith}
 use lib.ListN.{length}
 use borrow.Author.Tests.{lt-ltb, eq-eqb, ne-eqb}
 use Rattle.bits.specs.Stream.{toBits, bitsOf}
-use Rattle.plan.specs.Plan.{Axis, headerBits, msBits, axesBits}
-use Rattle.plan.specs.Reading.{refuse, field, sharesFactor, readBases, notPrimitive, isRepeated, readMs, readAxis, readAxes, readFields, refused, closed, finish, readPlan}
-use Rattle.plan.specs.Refusals.{Field, familyField, axesField, baseField, degreeField, coefficientsField, mField, width, Before, Refusal, short, badFamily, badAxes, badBase, sharedFactor, highDegree, unfitPolynomial, evenM, repeated, badEnding}
+use Rattle.plan.specs.Plan.{Axis, Plan, headerBits, msBits, axesBits}
+use Rattle.plan.specs.Reading.{refuse, field, sharesFactor, readBases, notPrimitive, isRepeated, readMs, readAxis, readAxes, readFields, Reading, refused, accepted, finish, readPlan}
+use Rattle.plan.specs.Refusals.{Field, familyField, axesField, baseField, degreeField, coefficientsField, mField, width, Before, Refusal, short, badFamily, badAxes, badBase, sharedFactor, highDegree, nonPrimitive, evenM, repeated, badEnding}
 use Rattle.plan.proofs.TestLaws.{true-of, no-shared-factor-iff, not-repeated-iff, primitive-iff, bad-tail}
 use Rattle.plan.proofs.StepLaws.{refuses, passes, field-short, field-of, then-refuses, afterCoefficients}
 use Rattle.plan.proofs.FrontLaws.{degree-front, polynomial-front, given-front, family-front, halton-front, sobol-front, plan-front}
@@ -78,7 +78,7 @@ module _ (bits : List ℕ) where
   broken l x rest n e f = rw (e, append-assoc l x rest, f) refl
 
   due-refused : {n : ℕ} → Refusal bits n → finish (readFields bits) ≡ refused n
-  unfolding finish closed readFields readBases readAxis readMs
+  unfolding finish readFields readBases readAxis readMs
   due-refused (short f l rest b h e) = rw (e, short-stops f l rest b h) refl
   due-refused (badFamily rest e) = broken [] (toBits 2 3) rest 2 e (field-of 2 3 rest _ (omega arith) ∙ refuses 2 _ refl)
   due-refused (badAxes family s l rest b w e) = broken l (toBits 3 s) rest 3 e (axes-stop family s l rest b w)
@@ -92,7 +92,7 @@ module _ (bits : List ℕ) where
       (λ k. field-of 8 (a - 1) rest _ (omega arith) ∙ passes 4 _ (ne-eqb (a - 1) 0 (λ z. omega arith)) ∙ refuses 5 _ test))
   due-refused (highDegree s d axes l rest b h top e) =
       broken l (toBits 4 d) rest 6 e (axis-stops s axes l _ 6 b (field-of 4 d rest _ top ∙ refuses 6 _ (lt-ltb 12 d h)))
-  due-refused (unfitPolynomial s d p axes l rest b h g o not e) =
+  due-refused (nonPrimitive s d p axes l rest b h g o not e) =
       let test : notPrimitive d p ≡ true = true-of (notPrimitive d p) (λ t. not (primitive-iff d p g .0 t h)) in
       broken l (toBits (d - 1) (p / 2)) rest 7 e (coefficients-stop s d axes l _ 7 b (polynomial-front axes d p rest g o ∙ refuses 7 _ test))
   due-refused (evenM s d p m axes ms l rest b h even e) =
@@ -117,10 +117,24 @@ refusal-range (badAxes family s l rest b w e) = (omega arith, omega arith)
 refusal-range (badBase family s bases l rest b e) = (omega arith, omega arith)
 refusal-range (sharedFactor family s a j bases l rest b low high h shared e) = (omega arith, omega arith)
 refusal-range (highDegree s d axes l rest b h top e) = (omega arith, omega arith)
-refusal-range (unfitPolynomial s d p axes l rest b h g o not e) = (omega arith, omega arith)
+refusal-range (nonPrimitive s d p axes l rest b h g o not e) = (omega arith, omega arith)
 refusal-range (evenM s d p m axes ms l rest b h even e) = (omega arith, omega arith)
 refusal-range (repeated s d p j axes l rest b fit h same e) = (omega arith, omega arith)
 refusal-range (badEnding p rest v w e) = (omega arith, omega arith)
 
 pub refused-range : (bytes : List ℕ) (n : ℕ) → readPlan bytes ≡ refused n → (1 ≤ n) × (n ≤ 10)
 refused-range bytes n e = refusal-range (refused-due bytes n e)
+
+-- a plan is accepted if and only if none of the numbers is due to its bytes
+pub accepted-iff-none : (bytes : List ℕ) → ((p : Plan) × (readPlan bytes ≡ accepted p)) ↔ ((n : ℕ) → Refusal (bitsOf bytes) n → ⊥)
+accepted-iff-none bytes = (never, λ none. decided none (readPlan bytes) refl)
+  where
+    never : ((p : Plan) × (readPlan bytes ≡ accepted p)) → (n : ℕ) → Refusal (bitsOf bytes) n → ⊥
+    never w n r =
+        let e : accepted (w .0) ≡ refused n = sym (w .1) ∙ refused-iff bytes n .1 r in
+        let z : _≡_ {A = ℕ} 0 1 = cc in
+        omega arith
+
+    decided : ((n : ℕ) → Refusal (bitsOf bytes) n → ⊥) → (r : Reading) → readPlan bytes ≡ r → (p : Plan) × (readPlan bytes ≡ accepted p)
+    decided none (refused n) e = absurd (none n (refused-due bytes n e))
+    decided none (accepted p) e = (p, e)

@@ -14,7 +14,7 @@ use Rattle.bits.specs.Stream.{toBits, ofBits, AllBelow}
 use Rattle.bits.proofs.StreamLaws.{below-right, of-bits-take-lt, to-bits-front}
 use Rattle.plan.specs.Plan.{Axis, Plan, ValidBases, ValidAxis, ValidAxes, OneToSix, Valid, headerBits, basesBits, msBits, axisBits, axesBits, planBits}
 use Rattle.plan.specs.Reading.{Step, refuse, got, refuseIf, field, andThen, sharesFactor, readBases, polynomialOf, notPrimitive, isRepeated, readMs, readAxis, readAxes, readBody, readFields}
-use Rattle.plan.specs.Refusals.{Field, familyField, axesField, baseField, degreeField, coefficientsField, mField, width, New, Fit, Before, Refusal, short, badFamily, badAxes, badBase, sharedFactor, highDegree, unfitPolynomial, evenM, repeated}
+use Rattle.plan.specs.Refusals.{Field, familyField, axesField, baseField, degreeField, coefficientsField, mField, width, NotAmong, ValidPolynomial, Before, Refusal, short, badFamily, badAxes, badBase, sharedFactor, highDegree, nonPrimitive, evenM, repeated}
 use Rattle.plan.proofs.PlaceLaws.{length-snoc}
 use Rattle.plan.proofs.TestLaws.{no-shared-factor-iff, shared-factor-at, not-repeated-iff, repeated-at, polynomial-degree, polynomial-odd, polynomial-bits, primitive-iff, not-primitive-at, axes-range-iff, axes-out}
 use Rattle.plan.proofs.SpellingLaws.{bases-bits-snoc, ms-bits-snoc, axes-bits-snoc}
@@ -86,7 +86,7 @@ module _ (bits : List ℕ) (below : AllBelow 2 bits) where
 
   module _ (s : ℕ) (range : OneToSix s) where
     module _ (axes : List Axis) (room : length axes < s) (right : ValidAxes axes) where
-      module _ (d p : ℕ) (fit : Fit d p) (new : New p axes) where
+      module _ (d p : ℕ) (fit : ValidPolynomial d p) (new : NotAmong p axes) where
         -- these m's, all that there are, and then l
         record MsRead (ms l : List ℕ) : Type 0 where
           count : length ms ≡ d
@@ -116,14 +116,14 @@ module _ (bits : List ℕ) (below : AllBelow 2 bits) where
       -- this axis too, and then l
       record AxisRead (x : Axis) (l : List ℕ) : Type 0 where
         valid : ValidAxis x
-        new : New (x .polynomial) axes
+        new : NotAmong (x .polynomial) axes
         spelled : bits ≡ headerBits 2 s ++ axesBits (axes ++ x ∷ []) ++ l
 
-      axis-read : (d p : ℕ) (fit : Fit d p) (new : New p axes) (ms l : List ℕ) → MsRead d p fit new ms l → AxisRead (record { polynomial = p; ms = ms }) l
+      axis-read : (d p : ℕ) (fit : ValidPolynomial d p) (new : NotAmong p axes) (ms l : List ℕ) → MsRead d p fit new ms l → AxisRead (record { polynomial = p; ms = ms }) l
       unfolding axisBits
       axis-read d p fit new ms l h =
           let e : d ≡ length ms = sym (h .count) in
-          let f : Fit (length ms) p = rw e at fit in
+          let f : ValidPolynomial (length ms) p = rw e at fit in
           record {
             valid = record { degree-high = f .degree-high; degree = f .degree; constant = f .constant; primitive = f .primitive; given = h .odd };
             new = new;
@@ -143,9 +143,9 @@ module _ (bits : List ℕ) (below : AllBelow 2 bits) where
           let odd = polynomial-odd d a in
           let spelled : bits ≡ pre ++ toBits (d - 1) (p / 2) ++ r = rw (polynomial-bits d a) ea in
           refuseIf-sound (notPrimitive d p)
-          (λ t. let w = not-primitive-at d p degree t in unfitPolynomial s d p axes pre r before (w .0) degree odd (w .1) spelled)
+          (λ t. let w = not-primitive-at d p degree t in nonPrimitive s d p axes pre r before (w .0) degree odd (w .1) spelled)
           (λ t.
-          let fit : Fit d p = record { degree-high = top; degree = degree; constant = odd; primitive = primitive-iff d p degree .0 t } in
+          let fit : ValidPolynomial d p = record { degree-high = top; degree = degree; constant = odd; primitive = primitive-iff d p degree .0 t } in
           refuseIf-sound (isRepeated p axes)
           (λ u. let w = repeated-at p axes u in repeated s d p (w .0) axes pre r before fit (w .1) (w .2) spelled)
           (λ u. let new = not-repeated-iff p axes .0 u in

@@ -20,7 +20,7 @@ use Rattle.binary.proofs.PolynomialLaws.{is-primitive-iff}
 use Rattle.bits.specs.Stream.{toBits, ofBits, AllBelow}
 use Rattle.plan.specs.Plan.{Axis, noAxis, OneToSix}
 use Rattle.plan.specs.Reading.{sharesFactor, polynomialOf, notPrimitive, isRepeated, badTail}
-use Rattle.plan.specs.Refusals.{New}
+use Rattle.plan.specs.Refusals.{NotAmong}
 use Rattle.bits.proofs.StreamLaws.{to-bits-add}
 
 -- ---- Booleans
@@ -102,7 +102,7 @@ unfolding isRepeated any same
 repeated-any p [] = refl
 repeated-any p (x ∷ l) = ap (λ (t : Bool). eqb p (x .polynomial) || t) (repeated-any p l)
 
-pub not-repeated-iff : (p : ℕ) (l : List Axis) → (isRepeated p l ≡ false) ↔ New p l
+pub not-repeated-iff : (p : ℕ) (l : List Axis) → (isRepeated p l ≡ false) ↔ NotAmong p l
 unfolding same
 not-repeated-iff p l = (
   λ e j h. eqb-false p (getD l j noAxis .polynomial) (any-false (same p) noAxis l (sym (repeated-any p l) ∙ e) j h),

@@ -7,7 +7,7 @@ use lib.ListN.{length, getD}
 use Rattle.numbers.specs.Gcd.{Coprime}
 use Rattle.sobol.specs.Directions.{OddBelow, AllOddBelow}
 use Rattle.plan.specs.Plan.{Axis, noAxis, ValidBases, ValidAxis, ValidAxes}
-use Rattle.plan.specs.Refusals.{New}
+use Rattle.plan.specs.Refusals.{NotAmong}
 use Rattle.plan.proofs.PlaceLaws.{places-snoc, pairs-snoc}
 
 pub no-bases : ValidBases []
@@ -37,7 +37,7 @@ no-axes = record { valid = λ i h. absurd (omega arith); distinct = λ i j h k. 
 abbrev pub Differ : Axis → Axis → Type 0
 Differ x y = x .polynomial ≡ y .polynomial → ⊥
 
-pub axes-snoc : {axes : List Axis} {x : Axis} → ValidAxes axes → ValidAxis x → New (x .polynomial) axes → ValidAxes (axes ++ x ∷ [])
+pub axes-snoc : {axes : List Axis} {x : Axis} → ValidAxes axes → ValidAxis x → NotAmong (x .polynomial) axes → ValidAxes (axes ++ x ∷ [])
 axes-snoc {axes} {x} v one new =
     record {
       valid = places-snoc noAxis (λ i y. ValidAxis y) axes x (v .valid) one;

@@ -1,7 +1,7 @@
 -- Reading a plan, field by field: the order of 01-scope.md, "When a call is turned down". Each refusal is given by its number.
 -- Definitions only.
 use mathlib.Core.List.{List, [], _∷_, _++_}
-use mathlib.Core.Bool.{Bool, true, false, not, _&&_, _||_}
+use mathlib.Core.Bool.{Bool, true, false, not, _&&_, _||_, cond}
 use Prim.Native.Nat.{ℕ, zero, suc, _+_, _-_, _*_, _%_, _^_}
 use lib.Dec.{ltb, leb, eqb}
 use lib.ListN.{length, take, drop}
@@ -96,14 +96,10 @@ pub data Reading : Type 0 where
 abbrev pub badTail : List ℕ → Bool
 badTail l = leb 8 (length l) || not (eqb (ofBits l) 0)
 
-unfoldable pub closed : Bool → Plan → Reading
-closed true p = refused 10
-closed false p = accepted p
-
 -- last comes 10 (tail)
 unfoldable pub finish : Step Plan → Reading
 finish (refuse n) = refused n
-finish (got p l) = closed (badTail l) p
+finish (got p l) = cond (badTail l) (refused 10) (accepted p)
 
 unfoldable pub readPlan : List ℕ → Reading
 readPlan bytes = finish (readFields (bitsOf bytes))

@@ -32,11 +32,11 @@ width (coefficientsField s axes d) = d - 1
 width (mField s axes d p ms) = length ms + 1
 
 -- no axis of the list has the polynomial p
-abbrev pub New : ℕ → List Axis → Type 0
-New p axes = (j : ℕ) → j < length axes → p ≡ getD axes j noAxis .polynomial → ⊥
+abbrev pub NotAmong : ℕ → List Axis → Type 0
+NotAmong p axes = (j : ℕ) → j < length axes → p ≡ getD axes j noAxis .polynomial → ⊥
 
 -- a polynomial of degree d with constant term 1, primitive from degree 1 on
-pub record Fit (d p : ℕ) : Type 0 where
+pub record ValidPolynomial (d p : ℕ) : Type 0 where
   pub degree-high : d ≤ 12
   pub degree : Degree d p
   pub constant : p % 2 ≡ 1
@@ -52,7 +52,7 @@ Before (degreeField s axes) l = OneToSix s × (length axes < s) × ValidAxes axe
 Before (coefficientsField s axes d) l =
     OneToSix s × (length axes < s) × ValidAxes axes × (d ≤ 12) × (l ≡ headerBits 2 s ++ axesBits axes ++ toBits 4 d)
 Before (mField s axes d p ms) l =
-    OneToSix s × (length axes < s) × ValidAxes axes × Fit d p × New p axes × (length ms < d) × AllOddBelow (length ms) ms
+    OneToSix s × (length axes < s) × ValidAxes axes × ValidPolynomial d p × NotAmong p axes × (length ms < d) × AllOddBelow (length ms) ms
     × (l ≡ headerBits 2 s ++ axesBits axes ++ toBits 4 d ++ toBits (d - 1) (p / 2) ++ msBits 1 ms)
 
 -- the refusal with this number is due to a plan of these bits
@@ -71,13 +71,13 @@ pub data Refusal (bits : List ℕ) : ℕ → Type 0 where
   -- 6, degree: above 12
   highDegree : (s d : ℕ) (axes : List Axis) (l rest : List ℕ) → Before (degreeField s axes) l → 12 < d → d < 16 → bits ≡ l ++ toBits 4 d ++ rest → Refusal bits 6
   -- 7, not primitive: polynomial of degree 1 or more isn't primitive
-  unfitPolynomial : (s d p : ℕ) (axes : List Axis) (l rest : List ℕ) → Before (coefficientsField s axes d) l → 1 ≤ d → Degree d p → p % 2 ≡ 1
+  nonPrimitive : (s d p : ℕ) (axes : List Axis) (l rest : List ℕ) → Before (coefficientsField s axes d) l → 1 ≤ d → Degree d p → p % 2 ≡ 1
       → (Primitive d p → ⊥) → bits ≡ l ++ toBits (d - 1) (p / 2) ++ rest → Refusal bits 7
   -- 8, even: a given m_i is even
   evenM : (s d p m : ℕ) (axes : List Axis) (ms l rest : List ℕ) → Before (mField s axes d p ms) l → m < 2 ^ (length ms + 1) → m % 2 ≡ 0
       → bits ≡ l ++ toBits (length ms + 1) m ++ rest → Refusal bits 8
   -- 9, twin: polynomial of an earlier axis again
-  repeated : (s d p j : ℕ) (axes : List Axis) (l rest : List ℕ) → Before (coefficientsField s axes d) l → Fit d p → j < length axes
+  repeated : (s d p j : ℕ) (axes : List Axis) (l rest : List ℕ) → Before (coefficientsField s axes d) l → ValidPolynomial d p → j < length axes
       → p ≡ getD axes j noAxis .polynomial → bits ≡ l ++ toBits (d - 1) (p / 2) ++ rest → Refusal bits 9
   -- 10, tail: a filling bit is 1, or a byte follows
   badEnding : (p : Plan) (rest : List ℕ) → Valid p → ((i : ℕ) × (i < length rest) × (getD rest i 0 ≡ 1)) ⊎ (8 ≤ length rest)

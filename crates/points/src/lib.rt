@@ -1,8 +1,6 @@
 // The points of a plan held in arrays: by jump and by steps.
 ghost use mathlib.Core.Path.{_≡_};
-ghost use mathlib.Core.List.{_++_};
 ghost use Prim.Native.Nat.{_+_, _^_, _<_, _≤_};
-ghost use lib.ListN.{length, take, drop};
 ghost use Rattle.points.specs.Run.{runOf, inRange};
 ghost use Rattle.points.specs.Arrays.{numeratorAt, pointAt, denominatorAt, Arrays};
 
@@ -105,16 +103,4 @@ pub fn advance(
         i += 1;
     }
     y
-}
-
-// Writes the first `axes` words of a point to `out` from `at` on.
-pub fn put_point(out: &mut [u64], at: usize, x: [u64; 6], axes: usize)
-    requires { ⌜ (axes ≤ 6) × (at + axes ≤ length (now out)) ⌝ }
-    ensures { λ r. ⌜ now (out .exit) ≡ take at (now (out .entry)) ++ take axes x ++ drop (at + axes) (now (out .entry)) ⌝ }
-{
-    let mut i = 0;
-    while i < axes {
-        out[at + i] = x[i];
-        i += 1;
-    }
 }

@@ -41,7 +41,7 @@ fn power_of_x(words: &[u64], e: u64, p: u64, d: u64) -> u64
     let mut place = d;
     while 0 < place {
         place -= 1;
-        r = binary::mixed(words, r);
+        r = binary::combine(words, r);
         if (e >> place) & 1 == 1 {
             r = times_x(r, p, top);
         }

@@ -1,6 +1,6 @@
 -- Reading a whole plan: the bits after the last field, a family's body, and the header. Assumes nothing.
 use mathlib.Core.Path.{_≡_, refl, sym, ap, _∙_}
-use mathlib.Core.Bool.{Bool, true, false, not, _||_}
+use mathlib.Core.Bool.{Bool, true, false, not, _||_, cond}
 use mathlib.Core.List.{List}
 use Prim.Native.Nat.{ℕ, _+_, _*_, _<_, _≤_}
 use native.Mathlib.Omega.{arith}
@@ -12,12 +12,12 @@ use Rattle.numbers.specs.Listed.{padded}
 use Rattle.bits.specs.Stream.{ofBits, bitsOf, fieldAt}
 use Rattle.bits.proofs.StreamLaws.{length-bits}
 use Rattle.plan.specs.Plan.{Plan, halton, sobol}
-use Rattle.plan.specs.Reading.{Step, got, refuseIf, field, andThen, readBody, readFields, refused, badTail, closed, finish, readPlan}
+use Rattle.plan.specs.Reading.{Step, got, refuseIf, field, andThen, readBody, readFields, refused, accepted, badTail, finish, readPlan}
 use Rattle.plan.specs.Answer.{axesOf, answerOf, stepOf}
 use Rattle.plan.specs.declared.PlanRead.{PlanRead}
 use Rattle.plan.proofs.AnswerLaws.{length-axes}
-use Rattle.halton_reader.specs.Bases.{BasesSay}
-use Rattle.sobol_reader.specs.Axes.{AxesSay}
+use Rattle.halton_reader.specs.Bases.{BasesAnswer}
+use Rattle.sobol_reader.specs.Axes.{AxesAnswer}
 use Rattle.plan.proofs.BlankLaws.{padded-front}
 use Rattle.plan.proofs.PartLaws.{field-value, finish-stops}
 
@@ -48,12 +48,11 @@ module _ {A : Type 0} (body : Step Plan) (plan : A → Plan) (code : ℕ) (a : A
   refuses z f = f ∙ sym (ap answerOf (ap finish e ∙ finish-stops code a l _ z))
 
   module _ (z : code ≡ 0) {t : Bool} (et : t ≡ badTail l) where
-    closes : finish body ≡ closed t (plan a)
+    closes : finish body ≡ cond t (refused 10) (accepted (plan a))
     unfolding finish andThen
     closes = rw (e, z, ← et) refl
 
     refuses-tail : t ≡ true → {r : PlanRead} → r ≡ answerOf (refused 10) → r ≡ answerOf (finish body)
-    unfolding closed
     refuses-tail b f = f ∙ sym (ap answerOf (closes ∙ rw b refl))
 
 -- the reading of a plan of these bases or axes, from bit 5 on
@@ -63,7 +62,7 @@ haltonReading bytes family axes = answerOf (finish (readBody false family axes (
 abbrev sobolReading : List ℕ → ℕ → PlanRead
 sobolReading bytes axes = answerOf (finish (readBody true 2 axes (drop 5 (bitsOf bytes))))
 
-module _ (bytes : List ℕ) (family axes : ℕ) {code at : ℕ} {bases : List ℕ} (h : BasesSay bytes axes code at bases) where
+module _ (bytes : List ℕ) (family axes : ℕ) {code at : ℕ} {bases : List ℕ} (h : BasesAnswer bytes axes code at bases) where
   halton-body : readBody false family axes (drop 5 (bitsOf bytes)) ≡ andThen (stepOf code (take axes bases) (drop at (bitsOf bytes))) λ x r. got (halton family x) r
   unfolding readBody
   halton-body = rw (h .step) refl
@@ -77,13 +76,13 @@ module _ (bytes : List ℕ) (family axes : ℕ) {code at : ℕ} {bases : List �
 
     pub halton-end : t ≡ false → axes ≤ 6
         → record { code = 0; family = family; axes = axes; bases = bases; polynomials = replicate 6 0; ms = replicate 72 0 } ≡ haltonReading bytes family axes
-    unfolding closed answerOf
+    unfolding answerOf
     halton-end b most =
         let n : length (take axes bases) ≡ axes = length-take-le axes bases (omega arith) in
         let whole : bases ≡ padded 6 (take axes bases) = padded-front 6 axes bases (h .size) most (h .blank) in
         rw (closes _ (halton family) code _ _ halton-body z et, b, n, ← whole) refl
 
-module _ (bytes : List ℕ) (axes : ℕ) {code at : ℕ} {ps ms : List ℕ} (h : AxesSay bytes axes code at ps ms) where
+module _ (bytes : List ℕ) (axes : ℕ) {code at : ℕ} {ps ms : List ℕ} (h : AxesAnswer bytes axes code at ps ms) where
   sobol-body : readBody true 2 axes (drop 5 (bitsOf bytes)) ≡ andThen (stepOf code (axesOf ps ms axes) (drop at (bitsOf bytes))) λ x r. got (sobol x) r
   unfolding readBody
   sobol-body = rw (h .step) refl
@@ -96,7 +95,7 @@ module _ (bytes : List ℕ) (axes : ℕ) {code at : ℕ} {ps ms : List ℕ} (h :
     sobol-tail b f = refuses-tail _ sobol code _ _ sobol-body z et b f
 
     pub sobol-end : t ≡ false → record { code = 0; family = 2; axes = axes; bases = replicate 6 0; polynomials = ps; ms = ms } ≡ sobolReading bytes axes
-    unfolding closed answerOf
+    unfolding answerOf
     sobol-end b =
         let arrays = h .flat z in
         rw (closes _ sobol code _ _ sobol-body z et, b, length-axes ps ms axes, ← arrays .polynomials, ← arrays .blocks) refl

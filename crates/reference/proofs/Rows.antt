@@ -13,7 +13,7 @@ use Rattle.binary.specs.Polynomial.{timesX, onlyLast, isPrimitive}
 use Rattle.sobol.specs.Directions.{mTerms, mRule, mList, scaled, directions}
 use Rattle.sobol.specs.Stepping.{stepped}
 use Rattle.bits.specs.Stream.{toBits, ofBits, bitsOf}
-use Rattle.plan.specs.Reading.{refuseIf, field, andThen, sharesFactor, readBases, polynomialOf, isRepeated, readMs, readAxis, readAxes, readBody, readFields, closed, finish, readPlan}
+use Rattle.plan.specs.Reading.{refuseIf, field, andThen, sharesFactor, readBases, polynomialOf, isRepeated, readMs, readAxis, readAxes, readBody, readFields, finish, readPlan}
 use Rattle.points.specs.Point.{axisCount, numeratorOf, denominatorOf, slotOf}
 use Rattle.numbers.specs.Count.{count, each}
 use Rattle.numbers.specs.Cut.{belowCut}
@@ -23,5 +23,5 @@ use Rattle.window.specs.Counting.{axisInside, stepInside, insideCount, boundOf,
 use Rattle.reference.specs.Table.{windowOver, answerTo, table}
 
 pub rows-hold : map (λ r. answerTo (r .question)) table ≡ map (λ r. r .answer) table
-unfolding windowOver answerTo gcd gcdIn digit digitCountIn digitCount sum term numeratorTo depth denominator listed evenRule oddRule faureIn faure imageOf numerator rightZeroIn rightZero timesX onlyLast isPrimitive mTerms mRule mList scaled directions stepped toBits ofBits bitsOf refuseIf field andThen sharesFactor readBases polynomialOf isRepeated readMs readAxis readAxes readBody readFields closed finish readPlan axisCount numeratorOf denominatorOf slotOf count belowCut factor indexAt runNumerator each productTo axisInside stepInside insideCount boundOf cutsOf
+unfolding windowOver answerTo gcd gcdIn digit digitCountIn digitCount sum term numeratorTo depth denominator listed evenRule oddRule faureIn faure imageOf numerator rightZeroIn rightZero timesX onlyLast isPrimitive mTerms mRule mList scaled directions stepped toBits ofBits bitsOf refuseIf field andThen sharesFactor readBases polynomialOf isRepeated readMs readAxis readAxes readBody readFields finish readPlan axisCount numeratorOf denominatorOf slotOf count belowCut factor indexAt runNumerator each productTo axisInside stepInside insideCount boundOf cutsOf
 rows-hold = refl

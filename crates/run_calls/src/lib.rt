@@ -22,7 +22,7 @@ pub fn step(s: Sampler, out: &mut [u64]) -> Moved
         return calls::refused(refusal::BUFFER_TOO_SMALL, s);
     }
     let x = s.numerators;
-    points::put_point(out, 0, x, axes);
+    bits::store(out, 0, &x[..axes]);
     let t = state::advanced(s);
     Moved { code: 0, state: t }
 }

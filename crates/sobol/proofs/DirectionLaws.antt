@@ -10,13 +10,13 @@ use native.Mathlib.Numerals.{add-one}
 use native.Mathlib.Nat.{not-suc-le-zero, le-refl, lt-of-lt-of-le, zero-add, add-zero, zero-mul}
 use lib.Pow.{pow-pos, pow-mono, shl-lt, shl-exact}
 use lib.ListN.{length, getD, take, set, length-append, List·getD-append, List·getD-eq-default}
-use lib.Seq.{getD-at, getD-take, getD-set-same, getD-set-other, take-suc-set}
+use lib.Seq.{getD-at, getD-take, getD-set-same, getD-set-other, take-append-le, take-all, take-suc-set}
 use lib.Bits.{bitXor, bitAnd, xor-lt, xor-zero-r, shifted-even}
 use borrow.Author.Tests.{lt-ltb, le-ltb}
 use Rattle.binary.specs.Gf2.{times}
 use Rattle.numbers.proofs.Cases.{lt-or-ge}
 use Rattle.binary.proofs.XorLaws.{xor-odd}
-use Rattle.binary.proofs.MixLaws.{times-lt, times-set, times-clear}
+use Rattle.binary.proofs.CombinationLaws.{times-lt, times-set, times-clear}
 use Rattle.sobol.specs.Directions.{mTerm, mTerms, mRule, mNext, mList, scaled, directions, OddBelow, AllOddBelow}
 
 -- ---- a shift by k loses no digit of an m at place j
@@ -97,12 +97,23 @@ module _ (d p : ℕ) (given : List ℕ) where
       (λ l. let e : i ≡ n = omega arith in rw (e, m-list-last n) (m-next-odd-below g n (mList d p given n) (m-list-odd-below g n)))
       (lt-or-ge i n)
 
-  -- the given ones stay
+  -- the first i of them are m_1 to m_i
+  m-list-take : (n i : ℕ) → i ≤ n → take i (mList d p given n) ≡ mList d p given i
+  unfolding mList
+  m-list-take zero i h = let e : i ≡ 0 = omega arith in rw e refl
+  m-list-take (suc n) i h =
+      ⊎-elim
+      (λ l. take-append-le i (mList d p given n) (mNext d p given n (mList d p given n) ∷ []) (omega (arith, m-list-length n)) ∙ m-list-take n i (omega arith))
+      (λ l. let e : i ≡ suc n = omega arith in rw e (take-all (suc n) (mList d p given (suc n)) (omega (arith, m-list-length (suc n)))))
+      (lt-or-ge i (suc n))
+
+  m-list-at : (n i : ℕ) → i < n → getD (mList d p given n) i 0 ≡ mNext d p given i (mList d p given i)
+  m-list-at n i h =
+      sym (getD-take (suc i) (mList d p given n) i 0 (omega arith)) ∙ ap (λ (l : List ℕ). getD l i 0) (m-list-take n (suc i) h) ∙ m-list-last i
+
+  -- m_1 to m_d are the given ones
   pub m-list-given : (n i : ℕ) → i < d → i < n → getD (mList d p given n) i 0 ≡ getD given i 0
-  m-list-given zero i h l = absurd (not-suc-le-zero l)
-  m-list-given (suc n) i h l =
-      ⊎-elim (λ b. m-list-before n i b ∙ m-list-given n i h b)
-      (λ b. let e : i ≡ n = omega arith in rw (e, m-list-last n) (m-next-given n (mList d p given n) (omega arith))) (lt-or-ge i n)
+  m-list-given n i h l = m-list-at n i l ∙ m-next-given i (mList d p given i) h
 
 -- ---- the direction numbers
 
@@ -218,6 +229,12 @@ module _ (d p : ℕ) (given : List ℕ) (i : ℕ) (m : List ℕ) (front : take i
   unfolding AllOddBelow
   odd-below-front g j h =
       subst (OddBelow j) (ap (λ (l : List ℕ). getD l j 0) (sym front) ∙ getD-take i m j 0 h) (m-list-odd-below d p given g i j h)
+
+-- the later ones are by the recurrence over the same list; at degree 0, where it is 1, all are 1
+pub m-list-rule : (d p : ℕ) (given : List ℕ) (n i : ℕ) → d ≤ i → i < n → getD (mList d p given n) i 0 ≡ mRule d p (mList d p given n) i
+m-list-rule d p given n i h l =
+    m-list-at d p given n i l ∙ sym (m-next-front d p given i (mList d p given n) (m-list-take d p given n i (omega arith)))
+    ∙ m-next-rule d p given i (mList d p given n) h
 
 -- ---- one turn of a loop that stores f i at i: a list that agrees with f below i then agrees below i + 1
 

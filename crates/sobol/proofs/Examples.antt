@@ -4,7 +4,7 @@ use mathlib.Core.Path.{_≡_, refl}
 use mathlib.Core.List.{List, [], _∷_}
 use Prim.Native.Nat.{ℕ}
 use Rattle.binary.specs.Gray.{rightZeroIn, rightZero}
-use Rattle.binary.specs.Gf2.{mix}
+use Rattle.binary.specs.Gf2.{combination}
 use Rattle.sobol.specs.Directions.{mTerms, mRule, mList, scaled, directions}
 use Rattle.sobol.specs.Stepping.{stepped, jumped}
 
@@ -21,15 +21,15 @@ unfolding directions scaled mList mRule mTerms stepped rightZero rightZeroIn
 point-4 = refl
 
 point-4-jumped : jumped (directions 3 11 given) 4 ≡ 536870912
-unfolding directions scaled mList mRule mTerms jumped mix
+unfolding directions scaled mList mRule mTerms jumped combination
 point-4-jumped = refl
 
 -- 1/4
 point-2-jumped : jumped (directions 3 11 given) 2 ≡ 1073741824
-unfolding directions scaled mList mRule mTerms jumped mix
+unfolding directions scaled mList mRule mTerms jumped combination
 point-2-jumped = refl
 
 -- 3/4, by the index's own digits
-own-digits-2 : mix (directions 3 11 given) 2 ≡ 3221225472
-unfolding directions scaled mList mRule mTerms mix
+own-digits-2 : combination (directions 3 11 given) 2 ≡ 3221225472
+unfolding directions scaled mList mRule mTerms combination
 own-digits-2 = refl

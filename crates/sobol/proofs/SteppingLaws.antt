@@ -10,17 +10,17 @@ use lib.ListN.{getD}
 use lib.Pow.{pow-pos}
 use lib.Bits.{bitXor, xor-lt}
 use Rattle.binary.specs.Gray.{rightZero, gray}
-use Rattle.binary.specs.Gf2.{mix}
+use Rattle.binary.specs.Gf2.{combination}
 use Rattle.binary.proofs.GrayLaws.{gray-step, right-zero-lt, trailing-zeros-of-complement}
-use Rattle.binary.proofs.MixLaws.{mix-xor, mix-zero, mix-pow}
+use Rattle.binary.proofs.CombinationLaws.{combination-xor, combination-zero, combination-pow}
 use Rattle.sobol.specs.Stepping.{stepped, jumped}
 
 pub jump-is-stepped : (vs : List ℕ) (n : ℕ) → jumped vs n ≡ stepped vs n
 unfolding jumped stepped
-jump-is-stepped vs zero = mix-zero vs
+jump-is-stepped vs zero = combination-zero vs
 jump-is-stepped vs (suc n) =
-    ap (jumped vs) (sym (add-one n)) ∙ ap (mix vs) (gray-step n) ∙ mix-xor vs (gray n) (2 ^ rightZero n)
-    ∙ ap₂ bitXor (jump-is-stepped vs n) (mix-pow vs (rightZero n))
+    ap (jumped vs) (sym (add-one n)) ∙ ap (combination vs) (gray-step n) ∙ combination-xor vs (gray n) (2 ^ rightZero n)
+    ∙ ap₂ bitXor (jump-is-stepped vs n) (combination-pow vs (rightZero n))
 
 -- points stay below a power of two that the direction numbers stay below
 pub stepped-lt : (k : ℕ) (vs : List ℕ) → ((j : ℕ) → getD vs j 0 < 2 ^ k) → (n : ℕ) → stepped vs n < 2 ^ k

@@ -88,7 +88,7 @@ pub fn jump(v: &[u64], n: u64) -> u64
     requires { ⌜ length (now v) ≡ 32 ⌝ }
     ensures { λ r. ⌜ r ≡ stepped (now (v .entry)) n ⌝ }
 {
-    binary::mixed(v, n ^ (n >> 1))
+    binary::combine(v, n ^ (n >> 1))
 }
 
 // The point of index `n + 1` from that of index `n`, which is `x`: the trailing zeros of n's complement pick the direction number.

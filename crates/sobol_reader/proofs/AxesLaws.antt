@@ -5,18 +5,18 @@ use mathlib.Core.List.{List, [], _∷_, _++_, append-assoc, append-nil}
 use Prim.Native.Nat.{ℕ, zero, suc, _+_, _-_, _*_, _<_, _≤_}
 use native.Mathlib.Numerals.{add-one}
 use native.Mathlib.Omega.{arith}
-use lib.ListN.{length, take, drop, getD, replicate, set, length-set, length-append, length-drop, length-take, take-append-drop}
-use lib.Seq.{take-suc, take-append-le, drop-append-le, take-at, drop-at, length-take-le, getD-set-same, getD-set-other}
+use lib.ListN.{length, take, drop, getD, replicate, set, length-set, length-drop, take-append-drop}
+use lib.Seq.{take-suc, take-append-le, drop-append-le, drop-at, length-take-le, getD-set-same, getD-set-other}
 use Rattle.numbers.specs.Listed.{padded}
 use Rattle.numbers.proofs.Cases.{lt-or-ge}
 use Rattle.binary.specs.Polynomial.{degreeOf}
 use Rattle.binary.proofs.DegreeLaws.{degree-of}
 use Rattle.bits.specs.Stream.{bitsOf, overwrite}
-use Rattle.bits.proofs.OverwriteLaws.{length-over}
+use Rattle.bits.proofs.OverwriteLaws.{over-is, length-over, take-over, drop-over}
 use Rattle.plan.specs.Plan.{Axis}
 use Rattle.plan.specs.Reading.{andThen, readAxes}
 use Rattle.plan.specs.Answer.{polynomialsOf, msOf, axisAt, axesOf, stepOf}
-use Rattle.sobol_reader.specs.Axes.{AxisSays, AxesSay}
+use Rattle.sobol_reader.specs.Axes.{AxisAnswer, AxesAnswer}
 use Rattle.plan.proofs.BlankLaws.{blank-drop, blank-set, padded-front}
 use Rattle.plan.proofs.PartLaws.{then-stops}
 
@@ -31,30 +31,16 @@ front n p q l z h k =
 
 module _ (q : ℕ) (l x : List ℕ) (k : q ≤ length l) where
   over-below : (n p : ℕ) → p + n ≤ q → take n (drop p (overwrite l q x)) ≡ take n (drop p l)
-  unfolding overwrite
   over-below n p h =
-      ap (λ (y : List ℕ). take n (drop p y)) (append-assoc (take q l) x (drop (q + length x) l))
+      ap (λ (y : List ℕ). take n (drop p y)) (over-is l q x ∙ append-assoc (take q l) x (drop (q + length x) l))
       ∙ front n p q l (x ++ drop (q + length x) l) h k
       ∙ sym (ap (λ (y : List ℕ). take n (drop p y)) (sym (take-append-drop q l)) ∙ front n p q l (drop q l) h k)
 
   over-at : (n : ℕ) → n ≤ length x → take n (drop q (overwrite l q x)) ≡ take n x
-  unfolding overwrite
   over-at n h =
-      ap (λ (y : List ℕ). take n (drop q y)) (append-assoc (take q l) x (drop (q + length x) l))
+      ap (λ (y : List ℕ). take n (drop q y)) (over-is l q x ∙ append-assoc (take q l) x (drop (q + length x) l))
       ∙ ap (take n) (drop-at (take q l) (x ++ drop (q + length x) l) q (length-take-le q l k))
       ∙ take-append-le n x (drop (q + length x) l) h
-
-  module _ (n : ℕ) (e : q + length x ≡ n) where
-    ends : length (take q l ++ x) ≡ n
-    ends = length-append (take q l) x ∙ omega (arith, length-take q l)
-
-    over-front : take n (overwrite l q x) ≡ take q l ++ x
-    unfolding overwrite
-    over-front = take-at (take q l ++ x) (drop (q + length x) l) n ends
-
-    over-back : drop n (overwrite l q x) ≡ drop n l
-    unfolding overwrite
-    over-back = drop-at (take q l ++ x) (drop (q + length x) l) n ends ∙ ap (λ (m : ℕ). drop m l) e
 
 -- ---- the arrays of axes
 
@@ -139,7 +125,7 @@ axes-start bytes axes h =
     }
 
 module _ {bytes : List ℕ} {axes : ℕ} {ps ms : List ℕ} {at i : ℕ} (inv : AxesLoop bytes axes ps ms at i) (most : axes ≤ 6) where
-  pub axes-end : axes ≤ i → AxesSay bytes axes 0 at ps ms
+  pub axes-end : axes ≤ i → AxesAnswer bytes axes 0 at ps ms
   unfolding readAxes
   axes-end h =
       let e : i ≡ axes = omega arith in
@@ -155,7 +141,7 @@ module _ {bytes : List ℕ} {axes : ℕ} {ps ms : List ℕ} {at i : ℕ} (inv : 
         near = omega arith;
       }
 
-  module _ (h : i < axes) {code at′ d p : ℕ} {block : List ℕ} (x : AxisSays bytes at i ps code at′ d p block) where
+  module _ (h : i < axes) {code at′ d p : ℕ} {block : List ℕ} (x : AxisAnswer bytes at i ps code at′ d p block) where
     turn : readAxes axes [] (drop 5 (bitsOf bytes))
         ≡ andThen (stepOf code (record { polynomial = p; ms = take d block }) (drop at′ (bitsOf bytes))) λ y r. readAxes (axes - (i + 1)) (axesOf ps ms i ++ y ∷ []) r
     unfolding readAxes
@@ -164,7 +150,7 @@ module _ {bytes : List ℕ} {axes : ℕ} {ps ms : List ℕ} {at i : ℕ} (inv : 
         inv .same ∙ rw left (rw (x .step ms) refl)
 
     -- any other code is right for the answer of `no_axes`
-    pub axes-stop : (code ≡ 0 → ⊥) → {code′ at2 : ℕ} {ps′ ms′ : List ℕ} → (code′ ≡ code) × (at2 ≡ 0) → AxesSay bytes axes code′ at2 ps′ ms′
+    pub axes-stop : (code ≡ 0 → ⊥) → {code′ at2 : ℕ} {ps′ ms′ : List ℕ} → (code′ ≡ code) × (at2 ≡ 0) → AxesAnswer bytes axes code′ at2 ps′ ms′
     axes-stop z f =
         rw (f .0, f .1)
         (record { step = turn ∙ then-stops code _ _ _ _ _ z; flat = λ q. absurd (z q); within = omega arith; near = omega arith })
@@ -176,7 +162,7 @@ module _ {bytes : List ℕ} {axes : ℕ} {ps ms : List ℕ} {at i : ℕ} (inv : 
         let ed : degreeOf p ≡ d = degree-of (x .has-degree z) in
         let all : axesOf (set ps i p) (overwrite ms (12 * i) block) (i + 1) ≡ axesOf ps ms i ++ record { polynomial = p; ms = take d block } ∷ [] =
         grown ps ms i p d block room (inv .low) (omega arith) (x .size) (x .degree-high) ed in
-        let ends : 12 * i + length block ≡ 12 * (i + 1) = omega arith in
+        let ends : 12 * (i + 1) ≡ 12 * i + length block = omega arith in
         let twelve : 12 * (i + 1) ≡ 12 * i + 12 = omega arith in
         record {
           count = omega arith;
@@ -185,9 +171,9 @@ module _ {bytes : List ℕ} {axes : ℕ} {ps ms : List ℕ} {at i : ℕ} (inv : 
           size-ps = length-set ps i p ∙ inv .size-ps;
           size-ms = length-over ms (12 * i) block (omega arith) ∙ inv .size-ms;
           blank-ps = blank-set 6 i ps p (inv .blank-ps);
-          blank-ms = over-back (12 * i) ms block room (12 * (i + 1)) ends ∙ rw twelve (blank-drop 72 (12 * i) 12 ms (inv .blank-ms));
+          blank-ms = drop-over ms (12 * i) block (12 * (i + 1)) room ends ∙ rw twelve (blank-drop 72 (12 * i) 12 ms (inv .blank-ms));
           low = grown-low ps ms i p d block room (inv .low) (omega arith) (x .size) (x .degree-high) ed;
-          blocks = over-front (12 * i) ms block room (12 * (i + 1)) ends
+          blocks = take-over ms (12 * i) block (12 * (i + 1)) room ends
               ∙ ap₂ (λ (a b : List ℕ). a ++ b) (inv .blocks) (padded-front 12 d block (x .size) (x .degree-high) (x .blank))
               ∙ sym (ap msOf all ∙ ms-snoc (axesOf ps ms i) (record { polynomial = p; ms = take d block }));
           same = turn ∙ rw z refl ∙ ap (λ (l : List Axis). readAxes (axes - (i + 1)) l (drop at′ (bitsOf bytes))) (sym all);

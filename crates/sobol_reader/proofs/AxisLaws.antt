@@ -1,6 +1,6 @@
 -- Reading one Sobol axis: the test for a repeated polynomial, and the axis by the tests. Assumes nothing.
 use mathlib.Core.Path.{_≡_, refl, sym, ap, _∙_}
-use mathlib.Core.Bool.{Bool, true, false, _||_, cond}
+use mathlib.Core.Bool.{Bool, true, false, _||_, or-false, or-true, or-assoc}
 use mathlib.Core.List.{List, [], _∷_, _++_}
 use Prim.Native.Nat.{ℕ, zero, suc, _+_, _-_, _<_, _≤_}
 use native.Mathlib.Omega.{arith}
@@ -16,28 +16,16 @@ use Rattle.plan.specs.Reading.{refuse, refuseIf, field, andThen, polynomialOf, 
 use Rattle.plan.specs.Answer.{axisAt, axesOf, stepOf}
 use Rattle.plan.proofs.TestLaws.{polynomial-degree}
 use Rattle.plan.proofs.StepLaws.{afterMs}
-use Rattle.sobol_reader.specs.Axes.{MsSay, AxisSays}
+use Rattle.sobol_reader.specs.Axes.{MsAnswer, AxisAnswer}
 use Rattle.plan.proofs.PartLaws.{field-value, step-stops}
 
 -- ---- a polynomial against those of the first n axes of arrays
 
-or-nil : (b : Bool) → b || false ≡ b
-or-nil true = refl
-or-nil false = refl
-
-or-true : (b : Bool) → b || true ≡ true
-or-true true = refl
-or-true false = refl
-
-or-assoc : (a b c : Bool) → a || (b || c) ≡ a || b || c
-or-assoc true b c = refl
-or-assoc false b c = refl
-
 repeated-snoc : (p : ℕ) (axes : List Axis) (x : Axis) → isRepeated p (axes ++ x ∷ []) ≡ isRepeated p axes || eqb p (x .polynomial)
 unfolding isRepeated
-repeated-snoc p [] x = or-nil (eqb p (x .polynomial))
+repeated-snoc p [] x = or-false (eqb p (x .polynomial))
 repeated-snoc p (y ∷ axes) x =
-    ap (λ (b : Bool). eqb p (y .polynomial) || b) (repeated-snoc p axes x) ∙ or-assoc (eqb p (y .polynomial)) (isRepeated p axes) (eqb p (x .polynomial))
+    ap (λ (b : Bool). eqb p (y .polynomial) || b) (repeated-snoc p axes x) ∙ sym (or-assoc (eqb p (y .polynomial)) (isRepeated p axes) (eqb p (x .polynomial)))
 
 -- p is among the first n polynomials exactly if it is among the first j, whatever the m's
 pub record RepeatedLoop (p : ℕ) (ps : List ℕ) (n j : ℕ) : Type 0 where
@@ -58,7 +46,7 @@ module _ {p : ℕ} {ps : List ℕ} {n k : ℕ} (inv : RepeatedLoop p ps n k) whe
     repeated-stop e ms = sym (last ms ∙ rw (eq-eqb p (getD ps j 0) e) (or-true (isRepeated p (axesOf ps ms j))))
 
     pub repeated-next : (p ≡ getD ps j 0 → ⊥) → RepeatedLoop p ps n j
-    repeated-next f = record { count = omega arith; same = λ ms. last ms ∙ rw (ne-eqb p (getD ps j 0) f) (or-nil (isRepeated p (axesOf ps ms j))) }
+    repeated-next f = record { count = omega arith; same = λ ms. last ms ∙ rw (ne-eqb p (getD ps j 0) f) (or-false (isRepeated p (axesOf ps ms j))) }
 
 -- ---- an axis of the reading, by the tests
 
@@ -81,17 +69,20 @@ module _ (earlier : List Axis) (l : List ℕ) (d : ℕ) (e : ltb (length l) 4 �
       unfolding readAxis field refuseIf
       unfit u = rw (e, ed, f, g, ep, u) refl
 
-      fit : notPrimitive d p ≡ false → readAxis earlier l ≡ refuseIf (isRepeated p earlier) 9 (andThen (readMs d 1 [] (drop (d - 1) (drop 4 l))) (afterMs p))
-      unfolding readAxis field
-      fit u = unfold refuseIf in (rw (e, ed, f, g, ep, u) refl)
+      module _ (u : notPrimitive d p ≡ false) where
+        twin : isRepeated p earlier ≡ true → readAxis earlier l ≡ refuse 9
+        unfolding readAxis field refuseIf
+        twin t = rw (e, ed, f, g, ep, u, t) refl
 
--- the code that the m's answer, after the test for a repeated polynomial
-tested : (t : Bool) (code p : ℕ) (ms l : List ℕ)
-    → refuseIf t 9 (andThen (stepOf code ms l) (afterMs p)) ≡ stepOf (cond t 9 code) (record { polynomial = p; ms = ms }) l
-unfolding refuseIf andThen
-tested true code p ms l = refl
-tested false zero p ms l = refl
-tested false (suc n) p ms l = refl
+        fit : isRepeated p earlier ≡ false → readAxis earlier l ≡ andThen (readMs d 1 [] (drop (d - 1) (drop 4 l))) (afterMs p)
+        unfolding readAxis field
+        fit t = unfold refuseIf in (rw (e, ed, f, g, ep, u, t) refl)
+
+-- the code that the m's answer is the axis's
+passed-on : (code p : ℕ) (ms l : List ℕ) → andThen (stepOf code ms l) (afterMs p) ≡ stepOf code (record { polynomial = p; ms = ms }) l
+unfolding andThen
+passed-on zero p ms l = refl
+passed-on (suc n) p ms l = refl
 
 -- ---- what `read_axis` has read
 
@@ -118,7 +109,7 @@ module _ (bytes ps : List ℕ) (start n : ℕ) where
   -- number k is right for the answer of `no_axis`
   abbrev pub AxisStop : ℕ → Type 0
   AxisStop k = (code at degree p : ℕ) (ms : List ℕ) → (code ≡ k) × (at ≡ 0) × (degree ≡ 0) × (ms ≡ replicate 12 0)
-      → AxisSays bytes start n ps code at degree p ms
+      → AxisAnswer bytes start n ps code at degree p ms
 
   axis-refused : (k : ℕ) → (k ≡ 0 → ⊥) → (x : Axis) (l : List ℕ) → ((b : List ℕ) → readAxis (axesOf ps b n) (drop start (bitsOf bytes)) ≡ stepOf k x l) → AxisStop k
   axis-refused k z x l e code at degree p ms f =
@@ -166,26 +157,29 @@ module _ (bytes ps : List ℕ) (start n : ℕ) where
     pub axis-unfit : u ≡ true → AxisStop 7
     axis-unfit t = axis-refuses 6 (λ b. unfit _ _ d (h .degree .long) (is-d (h .degree)) (le-ltb 12 d (h .most)) long p is-p (sym eu ∙ t))
 
-    module _ (tu : u ≡ false) {t : Bool} (et : (b : List ℕ) → t ≡ isRepeated p (axesOf ps b n)) {mc mat : ℕ} {ms : List ℕ} (m : MsSay bytes (start + 4 + w) d mc mat ms)
-        {code : ℕ} (ec : code ≡ cond t 9 mc) where
-      answered : (b : List ℕ) → readAxis (axesOf ps b n) (drop start (bitsOf bytes)) ≡ stepOf code (record { polynomial = p; ms = take d ms }) (drop mat (bitsOf bytes))
-      answered b =
-          rw ec
-          (fit _ _ d (h .degree .long) (is-d (h .degree)) (le-ltb 12 d (h .most)) long p is-p (sym eu ∙ tu)
-          ∙ rw (← et b, drop-drop 4 start (bitsOf bytes), ← h .width, drop-drop w (start + 4) (bitsOf bytes), m .step)
-          (tested t mc p (take d ms) (drop mat (bitsOf bytes))))
+    module _ (tu : u ≡ false) {t : Bool} (et : (b : List ℕ) → t ≡ isRepeated p (axesOf ps b n)) where
+      pub axis-twin : t ≡ true → AxisStop 9
+      axis-twin r =
+          axis-refuses 8 (λ b. twin _ _ d (h .degree .long) (is-d (h .degree)) (le-ltb 12 d (h .most)) long p is-p (sym eu ∙ tu) (sym (et b) ∙ r))
 
-      pub axis-stop : (code ≡ 0 → ⊥) → AxisStop code
-      axis-stop z = axis-refused code z _ _ answered
+      module _ (nt : t ≡ false) {code at : ℕ} {ms : List ℕ} (m : MsAnswer bytes (start + 4 + w) d code at ms) where
+        answered : (b : List ℕ) → readAxis (axesOf ps b n) (drop start (bitsOf bytes)) ≡ stepOf code (record { polynomial = p; ms = take d ms }) (drop at (bitsOf bytes))
+        answered b =
+            fit _ _ d (h .degree .long) (is-d (h .degree)) (le-ltb 12 d (h .most)) long p is-p (sym eu ∙ tu) (sym (et b) ∙ nt)
+            ∙ rw (drop-drop 4 start (bitsOf bytes), ← h .width, drop-drop w (start + 4) (bitsOf bytes), m .step)
+            (passed-on code p (take d ms) (drop at (bitsOf bytes)))
 
-      pub axis-end : code ≡ 0 → AxisSays bytes start n ps 0 mat d p ms
-      axis-end z =
-          record {
-            step = λ b. answered b ∙ rw z refl;
-            blank = m .blank;
-            size = m .size;
-            degree-high = h .most;
-            has-degree = λ q. polynomial-fits h;
-            within = m .within;
-            near = omega arith;
-          }
+        pub axis-stop : (code ≡ 0 → ⊥) → AxisStop code
+        axis-stop z = axis-refused code z _ _ answered
+
+        pub axis-end : code ≡ 0 → AxisAnswer bytes start n ps 0 at d p ms
+        axis-end z =
+            record {
+              step = λ b. answered b ∙ rw z refl;
+              blank = m .blank;
+              size = m .size;
+              degree-high = h .most;
+              has-degree = λ q. polynomial-fits h;
+              within = m .within;
+              near = omega arith;
+            }

@@ -13,7 +13,7 @@ use borrow.Author.Tests.{eq-eqb, ne-eqb}
 use Rattle.bits.specs.Stream.{ofBits, bitsOf, fieldAt}
 use Rattle.bits.proofs.ByteLaws.{lowest-bit}
 use Rattle.plan.specs.Reading.{refuse, refuseIf, field, readMs}
-use Rattle.sobol_reader.specs.Axes.{MsSay}
+use Rattle.sobol_reader.specs.Axes.{MsAnswer}
 use Rattle.plan.proofs.BlankLaws.{drop-zeros, blank-set}
 use Rattle.plan.proofs.PartLaws.{long-field, field-value}
 
@@ -55,14 +55,14 @@ ms-start bytes start degree h =
 
 -- number n is right for the answer of `no_ms`
 abbrev pub MsStop : List ℕ → ℕ → ℕ → ℕ → Type 0
-MsStop bytes start degree n = (code at : ℕ) (ms : List ℕ) → (code ≡ n) × (at ≡ 0) × (ms ≡ replicate 12 0) → MsSay bytes start degree code at ms
+MsStop bytes start degree n = (code at : ℕ) (ms : List ℕ) → (code ≡ n) × (at ≡ 0) × (ms ≡ replicate 12 0) → MsAnswer bytes start degree code at ms
 
 ms-refused : (bytes : List ℕ) (start degree n : ℕ) → readMs degree 1 [] (drop start (bitsOf bytes)) ≡ refuse (suc n) → MsStop bytes start degree (suc n)
 ms-refused bytes start degree n e code at ms f =
     rw (f .0, f .1, f .2) (record { step = e; blank = drop-zeros 12 degree; size = refl; within = omega arith; near = omega arith })
 
 module _ {bytes : List ℕ} {start degree : ℕ} {ms : List ℕ} {at i : ℕ} (inv : MsLoop bytes start degree ms at i) (most : degree ≤ 12) where
-  pub ms-end : degree ≤ i → MsSay bytes start degree 0 at ms
+  pub ms-end : degree ≤ i → MsAnswer bytes start degree 0 at ms
   unfolding readMs
   ms-end h =
       let e : i ≡ degree = omega arith in

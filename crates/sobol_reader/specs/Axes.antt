@@ -12,7 +12,7 @@ use Rattle.plan.specs.Reading.{readMs, readAxis, readAxes}
 use Rattle.plan.specs.Answer.{polynomialsOf, msOf, axesOf, stepOf}
 
 -- so many m's, from bit `start`
-pub record MsSay (bytes : List ℕ) (start degree code at : ℕ) (ms : List ℕ) : Type 0 where
+pub record MsAnswer (bytes : List ℕ) (start degree code at : ℕ) (ms : List ℕ) : Type 0 where
   pub step : readMs degree 1 [] (drop start (bitsOf bytes)) ≡ stepOf code (take degree ms) (drop at (bitsOf bytes))
   pub blank : drop degree ms ≡ replicate (12 - degree) 0
   pub size : length ms ≡ 12
@@ -20,7 +20,7 @@ pub record MsSay (bytes : List ℕ) (start degree code at : ℕ) (ms : List ℕ)
   pub near : at ≤ start + 144
 
 -- an axis, from bit `start`, after n axes with the first n of these polynomials, whatever their m's
-pub record AxisSays (bytes : List ℕ) (start n : ℕ) (ps : List ℕ) (code at degree polynomial : ℕ) (ms : List ℕ) : Type 0 where
+pub record AxisAnswer (bytes : List ℕ) (start n : ℕ) (ps : List ℕ) (code at degree polynomial : ℕ) (ms : List ℕ) : Type 0 where
   pub step : (before : List ℕ) → readAxis (axesOf ps before n) (drop start (bitsOf bytes))
       ≡ stepOf code (record { polynomial = polynomial; ms = take degree ms }) (drop at (bitsOf bytes))
   pub blank : drop degree ms ≡ replicate (12 - degree) 0
@@ -36,7 +36,7 @@ pub record Flat (axes : List Axis) (ps ms : List ℕ) : Type 0 where
   pub blocks : ms ≡ padded 72 (msOf axes)
 
 -- so many axes, from bit 5
-pub record AxesSay (bytes : List ℕ) (axes code at : ℕ) (ps ms : List ℕ) : Type 0 where
+pub record AxesAnswer (bytes : List ℕ) (axes code at : ℕ) (ps ms : List ℕ) : Type 0 where
   pub step : readAxes axes [] (drop 5 (bitsOf bytes)) ≡ stepOf code (axesOf ps ms axes) (drop at (bitsOf bytes))
   pub flat : code ≡ 0 → Flat (axesOf ps ms axes) ps ms
   pub within : at ≤ 8 * length bytes

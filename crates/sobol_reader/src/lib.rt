@@ -1,14 +1,13 @@
 // Reading the axes of a Sobol plan: the fields in their order, and the first refusal that holds.
 use plan::refusal;
 ghost use mathlib.Core.Path.{_≡_};
-ghost use mathlib.Core.Bool.{cond};
 ghost use mathlib.Core.List.{List};
 ghost use Prim.Native.Nat.{ℕ, _+_, _-_, _*_, _<_, _≤_};
 ghost use lib.ListN.{length, replicate};
 ghost use Rattle.binary.specs.Polynomial.{Degree};
 ghost use Rattle.plan.specs.Reading.{polynomialOf, notPrimitive, isRepeated};
 ghost use Rattle.plan.specs.Answer.{axesOf};
-ghost use Rattle.sobol_reader.specs.Axes.{MsSay, AxisSays, AxesSay};
+ghost use Rattle.sobol_reader.specs.Axes.{MsAnswer, AxisAnswer, AxesAnswer};
 
 // What reading the m's of an axis comes to.
 struct MsRead {
@@ -30,7 +29,7 @@ fn no_ms(code: u64) -> MsRead
 // m_1 to m_`degree`, from bit `start` on, m_i in i bits.
 fn read_ms(bytes: &[u8], start: usize, degree: usize) -> MsRead
     requires { ⌜ (start ≤ 8 * length (now bytes)) × (degree ≤ 12) × (start < 2048) ⌝ }
-    ensures { λ r. ⌜ MsSay (now (bytes .entry)) start degree (r .code) (r .at) (r .ms) ⌝ }
+    ensures { λ r. ⌜ MsAnswer (now (bytes .entry)) start degree (r .code) (r .at) (r .ms) ⌝ }
 {
     let mut ms = [0u64; 12];
     let mut at: usize = start;
@@ -92,17 +91,6 @@ fn not_primitive(d: u64, p: u64) -> bool
     !primitive::is_primitive(d, p)
 }
 
-// The refusal after the coefficients: that of a repeated polynomial comes before those of the m's.
-fn first_refusal(repeated: bool, code: u64) -> u64
-    ensures { λ r. ⌜ r ≡ cond repeated 9 code ⌝ }
-{
-    if repeated {
-        refusal::REPEATED_POLYNOMIAL
-    } else {
-        code
-    }
-}
-
 // What reading an axis comes to.
 struct AxisRead {
     code: u64,
@@ -127,7 +115,7 @@ fn no_axis(code: u64) -> AxisRead
 // One Sobol axis, from bit `start` on, after `n` axes with these polynomials.
 fn read_axis(bytes: &[u8], start: usize, polynomials: &[u64], n: usize) -> AxisRead
     requires { ⌜ (start ≤ 8 * length (now bytes)) × (start < 2000) × (n ≤ length (now polynomials)) ⌝ }
-    ensures { λ r. ⌜ AxisSays (now (bytes .entry)) start n (now (polynomials .entry)) (r .code) (r .at) (r .degree) (r .polynomial) (r .ms) ⌝ }
+    ensures { λ r. ⌜ AxisAnswer (now (bytes .entry)) start n (now (polynomials .entry)) (r .code) (r .at) (r .degree) (r .polynomial) (r .ms) ⌝ }
 {
     if bits::is_short(bytes, start, 4) {
         return no_axis(refusal::TRUNCATED);
@@ -145,11 +133,12 @@ fn read_axis(bytes: &[u8], start: usize, polynomials: &[u64], n: usize) -> AxisR
     if not_primitive(d, p) {
         return no_axis(refusal::NOT_PRIMITIVE);
     }
-    let repeated = is_repeated(p, polynomials, n);
+    if is_repeated(p, polynomials, n) {
+        return no_axis(refusal::REPEATED_POLYNOMIAL);
+    }
     let m = read_ms(bytes, at + w, d as usize);
-    let code = first_refusal(repeated, m.code);
-    if code != 0 {
-        return no_axis(code);
+    if m.code != 0 {
+        return no_axis(m.code);
     }
     let ms = m.ms;
     AxisRead {
@@ -183,7 +172,7 @@ fn no_axes(code: u64) -> AxesRead
 // `axes` Sobol axes, from bit 5 on.
 pub fn read_axes(bytes: &[u8], axes: usize) -> AxesRead
     requires { ⌜ (5 ≤ 8 * length (now bytes)) × (axes ≤ 6) ⌝ }
-    ensures { λ r. ⌜ AxesSay (now (bytes .entry)) axes (r .code) (r .at) (r .polynomials) (r .ms) ⌝ }
+    ensures { λ r. ⌜ AxesAnswer (now (bytes .entry)) axes (r .code) (r .at) (r .polynomials) (r .ms) ⌝ }
 {
     let mut polynomials = [0u64; 6];
     let mut ms = [0u64; 72];

@@ -12,9 +12,9 @@ use lib.Bits.{bitXor, xor-shifted}
 use lib.Seq.{getD-set-same, getD-set-other}
 use Rattle.numbers.proofs.Cases.{lt-or-ge}
 use Rattle.binary.specs.Gray.{gray}
-use Rattle.binary.specs.Gf2.{mix}
+use Rattle.binary.specs.Gf2.{combination}
 use Rattle.binary.proofs.XorLaws.{xor-half, xor-swap}
-use Rattle.binary.proofs.MixLaws.{mix-xor}
+use Rattle.binary.proofs.CombinationLaws.{combination-xor}
 use Rattle.sobol.specs.Stepping.{stepped, jumped}
 use Rattle.sobol.proofs.SteppingLaws.{jump-is-stepped}
 use Rattle.sobol_tables.specs.Tables.{Directions, Starts, Table, xored}
@@ -27,8 +27,8 @@ module _ (vs : List ℕ) where
   unfolding jumped
   stepped-xor a b =
       sym (jump-is-stepped vs (bitXor a b))
-      ∙ ap (mix vs) (gray-xor a b)
-      ∙ mix-xor vs (gray a) (gray b)
+      ∙ ap (combination vs) (gray-xor a b)
+      ∙ combination-xor vs (gray a) (gray b)
       ∙ ap₂ bitXor (jump-is-stepped vs a) (jump-is-stepped vs b)
 
   stepped-split : (k q r : ℕ) → r < 2 ^ k → stepped vs (q * 2 ^ k + r) ≡ bitXor (stepped vs (q * 2 ^ k)) (stepped vs r)

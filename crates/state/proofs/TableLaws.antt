@@ -14,6 +14,7 @@ use Rattle.binary.proofs.DegreeLaws.{degree-of}
 use Rattle.sobol.specs.Directions.{directions, AllOddBelow}
 use Rattle.sobol.proofs.DirectionLaws.{directions-length, directions-given}
 use Rattle.bits.specs.Stream.{overwrite}
+use Rattle.bits.proofs.OverwriteLaws.{over-is}
 use Rattle.plan.specs.Plan.{Axis, noAxis, ValidAxis, sobol, Valid}
 use Rattle.plan.specs.Answer.{axisAt, axesOf}
 use Rattle.plan.proofs.PlaceLaws.{length-snoc}
@@ -86,10 +87,11 @@ drop-zeros k m = rw (← replicate-append-replicate {A = ℕ} k m 0) (drop-at (r
 
 -- a write over the first zeros
 padded-over : (n : ℕ) (l x : List ℕ) (m : ℕ) → length l ≡ m → m + length x ≤ n → overwrite (padded n l) m x ≡ padded n (l ++ x)
-unfolding padded overwrite
+unfolding padded
 padded-over n l x m e h =
     let c : n - length l ≡ length x + (n - length (l ++ x)) = omega (arith, length-append l x) in
-    ap₂ (λ (a b : List ℕ). a ++ x ++ b) (take-at l (replicate (n - length l) 0) m e)
+    over-is (padded n l) m x
+    ∙ ap₂ (λ (a b : List ℕ). a ++ x ++ b) (take-at l (replicate (n - length l) 0) m e)
     (sym (drop-drop (length x) m (l ++ replicate (n - length l) 0))
     ∙ ap (drop (length x)) (drop-at l (replicate (n - length l) 0) m e ∙ ap (λ (j : ℕ). replicate j 0) c)
     ∙ drop-zeros (length x) (n - length (l ++ x)))

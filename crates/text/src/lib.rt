@@ -4,12 +4,12 @@ ghost use Prim.Native.Nat.{_+_, _^_, _<_, _≤_, max};
 ghost use lib.ListN.{length};
 ghost use Rattle.numbers.specs.Digits.{digitCount};
 ghost use Rattle.text.specs.Decimal.{decimalDigits, decimal};
-ghost use Rattle.text.specs.Put.{Put};
+ghost use Rattle.text.specs.Put.{TextPut};
 
 // Puts a text at `at`.
 pub fn put(out: &mut [u8], at: usize, text: &[u8]) -> usize
     requires { ⌜ at + length (now text) ≤ length (now out) ⌝ }
-    ensures { λ r. ⌜ Put (now (out .entry)) (now (out .exit)) at (now (text .entry)) r ⌝ }
+    ensures { λ r. ⌜ TextPut (now (out .entry)) (now (out .exit)) at (now (text .entry)) r ⌝ }
 {
     let mut i = 0;
     while i < text.len() {
@@ -31,7 +31,7 @@ fn digit_places(n: u64) -> usize
 // The last `k` decimal digits of a number, zeros in front where it has fewer; the highest first.
 pub fn put_digits(out: &mut [u8], at: usize, k: usize, n: u64) -> usize
     requires { ⌜ (1 ≤ k) × (k ≤ 20) × (at + k ≤ length (now out)) ⌝ }
-    ensures { λ r. ⌜ Put (now (out .entry)) (now (out .exit)) at (decimalDigits k n) r × (r ≡ at + k) ⌝ }
+    ensures { λ r. ⌜ TextPut (now (out .entry)) (now (out .exit)) at (decimalDigits k n) r × (r ≡ at + k) ⌝ }
 {
     let mut weight = numbers::power(10, (k - 1) as u64);
     let mut i = 0;
@@ -46,7 +46,7 @@ pub fn put_digits(out: &mut [u8], at: usize, k: usize, n: u64) -> usize
 // A number in decimal.
 pub fn put_decimal(out: &mut [u8], at: usize, n: u64) -> usize
     requires { ⌜ (n < 2 ^ 40) × (at + 13 ≤ length (now out)) ⌝ }
-    ensures { λ r. ⌜ Put (now (out .entry)) (now (out .exit)) at (decimal n) r × (r ≤ at + 13) ⌝ }
+    ensures { λ r. ⌜ TextPut (now (out .entry)) (now (out .exit)) at (decimal n) r × (r ≤ at + 13) ⌝ }
 {
     let k = digit_places(n);
     put_digits(out, at, k, n)

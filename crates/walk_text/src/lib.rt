@@ -5,7 +5,7 @@ ghost use mathlib.Core.List.{_++_};
 ghost use Prim.Native.Nat.{_+_, _^_, _<_, _≤_};
 ghost use lib.ListN.{length, take, drop};
 ghost use Rattle.text.specs.Decimal.{decimal};
-ghost use Rattle.text.specs.Put.{Put};
+ghost use Rattle.text.specs.Put.{TextPut};
 ghost use Rattle.plan.specs.Reading.{accepted};
 ghost use Rattle.plan.specs.Answer.{planAnswered, Accepted};
 ghost use Rattle.points.specs.Arrays.{Arrays};
@@ -15,7 +15,7 @@ ghost use Rattle.walk_text.specs.Parts.{fraction, fractionsAt, lineAt, l
 // A line of a word and a number, at the front; gives the place after it, as every `put_` does.
 fn put_head(out: &mut [u8], word: &[u8], n: u64) -> usize
     requires { ⌜ (n < 2 ^ 40) × (length (now word) + 14 ≤ length (now out)) ⌝ }
-    ensures { λ r. ⌜ Put (now (out .entry)) (now (out .exit)) 0 (now (word .entry) ++ decimal n ++ newline) r × (r ≤ length (now (word .entry)) + 14) ⌝ }
+    ensures { λ r. ⌜ TextPut (now (out .entry)) (now (out .exit)) 0 (now (word .entry) ++ decimal n ++ newline) r × (r ≤ length (now (word .entry)) + 14) ⌝ }
 {
     let after_word = text::put(out, 0, word);
     let after_number = text::put_decimal(out, after_word, n);
@@ -25,7 +25,7 @@ fn put_head(out: &mut [u8], word: &[u8], n: u64) -> usize
 // A space, and numerator/denominator.
 fn put_fraction(out: &mut [u8], at: usize, x: u64, d: u64) -> usize
     requires { ⌜ (x < 2 ^ 40) × (d < 2 ^ 40) × (at + 28 ≤ length (now out)) ⌝ }
-    ensures { λ r. ⌜ Put (now (out .entry)) (now (out .exit)) at (fraction x d) r × (r ≤ at + 28) ⌝ }
+    ensures { λ r. ⌜ TextPut (now (out .entry)) (now (out .exit)) at (fraction x d) r × (r ≤ at + 28) ⌝ }
 {
     let after_space = text::put(out, at, &[b' ']);
     let after_numerator = text::put_decimal(out, after_space, x);
@@ -44,7 +44,7 @@ fn put_fractions(
     n: u64,
 ) -> usize
     requires { ⌜ Arrays family axes (now bases) (now directions) × (n < 2 ^ 32) × (start + 168 ≤ length (now out)) ⌝ }
-    ensures { λ r. ⌜ Put (now (out .entry)) (now (out .exit)) start (fractionsAt family (now (bases .entry)) (now (directions .entry)) n axes) r × (r ≤ start + 168) ⌝ }
+    ensures { λ r. ⌜ TextPut (now (out .entry)) (now (out .exit)) start (fractionsAt family (now (bases .entry)) (now (directions .entry)) n axes) r × (r ≤ start + 168) ⌝ }
 {
     let mut at = start;
     let mut i = 0;
@@ -68,7 +68,7 @@ fn put_line(
     n: u64,
 ) -> usize
     requires { ⌜ Arrays family axes (now bases) (now directions) × (n < 2 ^ 32) × (at + 200 ≤ length (now out)) ⌝ }
-    ensures { λ r. ⌜ Put (now (out .entry)) (now (out .exit)) at (lineAt family axes (now (bases .entry)) (now (directions .entry)) n) r × (r ≤ at + 200) ⌝ }
+    ensures { λ r. ⌜ TextPut (now (out .entry)) (now (out .exit)) at (lineAt family axes (now (bases .entry)) (now (directions .entry)) n) r × (r ≤ at + 200) ⌝ }
 {
     let after_index = text::put_decimal(out, at, n);
     let after_point = put_fractions(out, after_index, family, axes, bases, directions, n);
@@ -85,7 +85,7 @@ fn put_lines(
     directions: &[u64],
 ) -> usize
     requires { ⌜ Arrays family axes (now bases) (now directions) × (start + 800 ≤ length (now out)) ⌝ }
-    ensures { λ r. ⌜ Put (now (out .entry)) (now (out .exit)) start (linesAt family axes (now (bases .entry)) (now (directions .entry)) 4) r × (r ≤ start + 800) ⌝ }
+    ensures { λ r. ⌜ TextPut (now (out .entry)) (now (out .exit)) start (linesAt family axes (now (bases .entry)) (now (directions .entry)) 4) r × (r ≤ start + 800) ⌝ }
 {
     let mut at = start;
     let mut n: u64 = 0;
@@ -99,7 +99,7 @@ fn put_lines(
 // The lines of a plan that the reader accepted.
 fn put_accepted(out: &mut [u8], a: PlanRead) -> usize
     requires { ⌜ Accepted a × (819 ≤ length (now out)) ⌝ }
-    ensures { λ r. ⌜ Put (now (out .entry)) (now (out .exit)) 0 (textOf (accepted (planAnswered a))) r ⌝ }
+    ensures { λ r. ⌜ TextPut (now (out .entry)) (now (out .exit)) 0 (textOf (accepted (planAnswered a))) r ⌝ }
 {
     let s = state::make(a, 0, 0, 0);
     let bases = s.bases;

@@ -1,4 +1,3 @@
 -- Laws of what the writer leaves in a buffer.
 pub mod PlanLaws
 pub mod AnswerLaws
-pub mod RoundTrip

@@ -1,6 +1,6 @@
 -- Which plans can be written, and what writing one leaves in a buffer. Definitions only.
 use mathlib.Core.Path.{_≡_}
-use mathlib.Core.Bool.{Bool, true, false, cond}
+use mathlib.Core.Bool.{Bool, cond}
 use mathlib.Core.List.{List, _++_}
 use Prim.Native.Nat.{ℕ, _≤_, _<_}
 use lib.Dec.{ltb}
@@ -33,12 +33,8 @@ abbrev pub writtenLength : Plan → List ℕ → ℕ
 writtenLength p old = cond (noRoom p old) 0 (length (spell p))
 
 -- the plan's bytes and then what lay behind them, or the buffer as it was
-unfoldable pub writtenIf : Bool → Plan → List ℕ → List ℕ
-writtenIf true p old = old
-writtenIf false p old = spell p ++ drop (length (spell p)) old
-
 abbrev pub written : Plan → List ℕ → List ℕ
-written p old = writtenIf (noRoom p old) p old
+written p old = cond (noRoom p old) old (spell p ++ drop (length (spell p)) old)
 
 pub record Written (p : Plan) (old new : List ℕ) (code len : ℕ) : Type 0 where
   pub answer : code ≡ writtenCode p old

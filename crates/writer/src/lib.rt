@@ -2,11 +2,11 @@
 use plan::refusal;
 ghost use mathlib.Core.Path.{_≡_};
 ghost use Prim.Native.Nat.{_≤_};
-ghost use lib.ListN.{length, take};
+ghost use lib.ListN.{length};
 ghost use Rattle.bits.specs.Stream.{AllBelow, overwrite};
 ghost use Rattle.plan.specs.Plan.{planBits};
 ghost use Rattle.plan.specs.Answer.{planOf};
-ghost use Rattle.axes_writer.specs.Parts.{Put};
+ghost use Rattle.axes_writer.specs.Parts.{BitsPut};
 ghost use Rattle.writer.specs.Parts.{Writable, Written};
 
 // The bits of the plan, into a buffer of 128 bytes; gives how many there are.
@@ -19,7 +19,7 @@ fn put_plan(
     ms: &[u64],
 ) -> usize
     requires { ⌜ (length (now out) ≡ 128) × Writable family axes (now bases) (now polynomials) (now ms) ⌝ }
-    ensures { λ r. ⌜ Put (now (out .entry)) (now (out .exit)) 0 (planBits (planOf family axes (now (bases .entry)) (now (polynomials .entry)) (now (ms .entry)))) r × (r ≤ 965) ⌝ }
+    ensures { λ r. ⌜ BitsPut (now (out .entry)) (now (out .exit)) 0 (planBits (planOf family axes (now (bases .entry)) (now (polynomials .entry)) (now (ms .entry)))) r × (r ≤ 965) ⌝ }
 {
     bits::put(out, 0, 2, family);
     bits::put(out, 2, 3, axes as u64);
@@ -29,14 +29,14 @@ fn put_plan(
     axes_writer::put_bases(out, bases, axes)
 }
 
-// The first `n` bytes of `from` into `out`.
-fn copy(out: &mut [u8], from: &[u8], n: usize)
-    requires { ⌜ (n ≤ length (now out)) × (n ≤ length (now from)) ⌝ }
-    ensures { λ r. ⌜ (now (out .exit) ≡ overwrite (now (out .entry)) 0 (take n (now (from .entry)))) × AllBelow 256 (take n (now (from .entry))) ⌝ }
+// The front of `out` becomes the bytes.
+fn copy(out: &mut [u8], bytes: &[u8])
+    requires { ⌜ length (now bytes) ≤ length (now out) ⌝ }
+    ensures { λ r. ⌜ (now (out .exit) ≡ overwrite (now (out .entry)) 0 (now (bytes .entry))) × AllBelow 256 (now (bytes .entry)) ⌝ }
 {
     let mut i = 0;
-    while i < n {
-        out[i] = from[i];
+    while i < bytes.len() {
+        out[i] = bytes[i];
         i += 1;
     }
 }
@@ -69,6 +69,6 @@ pub fn write_plan(
             len: 0,
         };
     }
-    copy(out, &buffer, len);
+    copy(out, &buffer[..len]);
     PlanWritten { code: 0, len }
 }

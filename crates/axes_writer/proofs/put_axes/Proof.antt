@@ -4,13 +4,13 @@ use Prim.Native.Nat.{ℕ, _+_, _*_, _-_, _≤_}
 use native.Mathlib.Omega.{arith}
 use Rattle.plan.specs.Plan.{axesBits}
 use Rattle.plan.specs.Answer.{axesOf}
-use Rattle.axes_writer.specs.Parts.{Put}
+use Rattle.axes_writer.specs.Parts.{BitsPut}
 use Rattle.axes_writer.proofs.PartLaws.{no-axis, next-axis}
 use Rattle.axes_writer.proofs.put_axes.Statement.{statement}
 use Rattle.axes_writer.proofs.put_axes.Tie as tie
 
 abbrev Inv-loop : tie.InvT-loop
-Inv-loop out₀ polynomials ms axes at₀ i₀ out at i = (i ≤ axes) × (at ≤ 5 + 160 * i) × Put out₀ out 5 (axesBits (axesOf polynomials ms i)) at
+Inv-loop out₀ polynomials ms axes at₀ i₀ out at i = (i ≤ axes) × (at ≤ 5 + 160 * i) × BitsPut out₀ out 5 (axesBits (axesOf polynomials ms i)) at
 
 abbrev μ-loop : tie.MeasureT-loop
 μ-loop out₀ polynomials ms axes at₀ i₀ out at i = axes - i
@@ -46,7 +46,7 @@ returns c =
     let l = c .before in
     let a = l .before .before .before .before .args in
     let e : l .loop .i ≡ a .axes = omega arith in
-    (subst (λ (k : ℕ). Put (a .out .now) (l .loop .out) 5 (axesBits (axesOf (a .polynomials .now) (a .ms .now) k)) (l .loop .at)) e (l .loop .inv .2), omega arith)
+    (subst (λ (k : ℕ). BitsPut (a .out .now) (l .loop .out) 5 (axesBits (axesOf (a .polynomials .now) (a .ms .now) k)) (l .loop .at)) e (l .loop .inv .2), omega arith)
 
 pub put-axes-spec : {M : Type 1} → statement M
 put-axes-spec =

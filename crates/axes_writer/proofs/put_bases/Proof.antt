@@ -4,13 +4,13 @@ use Prim.Native.Nat.{ℕ, _+_, _*_, _-_, _≤_}
 use native.Mathlib.Omega.{arith}
 use lib.ListN.{take}
 use Rattle.plan.specs.Plan.{basesBits}
-use Rattle.axes_writer.specs.Parts.{Put}
+use Rattle.axes_writer.specs.Parts.{BitsPut}
 use Rattle.axes_writer.proofs.PartLaws.{put-field, no-base, next-base}
 use Rattle.axes_writer.proofs.put_bases.Statement.{statement}
 use Rattle.axes_writer.proofs.put_bases.Tie as tie
 
 abbrev Inv-loop : tie.InvT-loop
-Inv-loop out₀ bases axes i₀ out i = (i ≤ axes) × Put out₀ out 5 (basesBits (take i bases)) (5 + 8 * i)
+Inv-loop out₀ bases axes i₀ out i = (i ≤ axes) × BitsPut out₀ out 5 (basesBits (take i bases)) (5 + 8 * i)
 
 abbrev μ-loop : tie.MeasureT-loop
 μ-loop out₀ bases axes i₀ out i = axes - i
@@ -64,7 +64,7 @@ returns : tie.Need-returns Inv-loop μ-loop
 returns c =
     let a = c .before .before .before .before .args in
     let e : c .before .loop .i ≡ a .axes = omega arith in
-    subst (λ (k : ℕ). Put (a .out .now) (c .before .loop .out) 5 (basesBits (take k (a .bases .now))) (5 + 8 * k)) e (c .before .loop .inv .1)
+    subst (λ (k : ℕ). BitsPut (a .out .now) (c .before .loop .out) 5 (basesBits (take k (a .bases .now))) (5 + 8 * k)) e (c .before .loop .inv .1)
 
 pub put-bases-spec : {M : Type 1} → statement M
 put-bases-spec =

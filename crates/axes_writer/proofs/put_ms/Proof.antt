@@ -5,13 +5,13 @@ use native.Mathlib.Omega.{arith}
 use lib.ListN.{take, drop, length-drop}
 use lib.Seq.{getD-drop}
 use Rattle.plan.specs.Plan.{msBits}
-use Rattle.axes_writer.specs.Parts.{Put}
+use Rattle.axes_writer.specs.Parts.{BitsPut}
 use Rattle.axes_writer.proofs.PartLaws.{put-field, no-m, next-m}
 use Rattle.axes_writer.proofs.put_ms.Statement.{statement}
 use Rattle.axes_writer.proofs.put_ms.Tie as tie
 
 abbrev Inv-loop : tie.InvT-loop
-Inv-loop out₀ start ms from degree at₀ i₀ out at i = (i ≤ degree) × (at ≤ start + 12 * i) × Put out₀ out start (msBits 1 (take i (drop from ms))) at
+Inv-loop out₀ start ms from degree at₀ i₀ out at i = (i ≤ degree) × (at ≤ start + 12 * i) × BitsPut out₀ out start (msBits 1 (take i (drop from ms))) at
 
 abbrev μ-loop : tie.MeasureT-loop
 μ-loop out₀ start ms from degree at₀ i₀ out at i = degree - i
@@ -68,7 +68,7 @@ returns c =
     let l = c .before in
     let a = l .before .before .before .args in
     let e : l .loop .i ≡ a .degree = omega arith in
-    (subst (λ (k : ℕ). Put (a .out .now) (l .loop .out) (a .start) (msBits 1 (take k (drop (a .from) (a .ms .now)))) (l .loop .at)) e (l .loop .inv .2), omega arith)
+    (subst (λ (k : ℕ). BitsPut (a .out .now) (l .loop .out) (a .start) (msBits 1 (take k (drop (a .from) (a .ms .now)))) (l .loop .at)) e (l .loop .inv .2), omega arith)
 
 pub put-ms-spec : {M : Type 1} → statement M
 put-ms-spec =

@@ -1,24 +1,21 @@
 -- After i turns the first i bytes of the word are written. Assumes nothing.
-use mathlib.Core.Path.{_≡_, refl, ap, _∙_}
+use mathlib.Core.Path.{refl}
 use Prim.Native.Nat.{_-_, _≤_}
 use native.Mathlib.Omega.{arith}
-use lib.ListN.{length, take, length-set}
-use lib.Seq.{take-all}
-use Rattle.bits.specs.Stream.{overwrite}
-use Rattle.bits.proofs.OverwriteLaws.{over-zero, over-next}
+use Rattle.bits.proofs.OverwriteLaws.{Copied, copied-none, copied-next, copied-all}
 use Rattle.big_endian.specs.Bytes.{bytesOf}
 use Rattle.big_endian.proofs.ByteLaws.{length-bytes, byte-shifted}
 use Rattle.big_endian.proofs.put_word.Statement.{statement}
 use Rattle.big_endian.proofs.put_word.Tie as tie
 
 abbrev Inv-loop : tie.InvT-loop
-Inv-loop out₀ at x i₀ out i = (i ≤ 8) × (length out ≡ length out₀) × (out ≡ overwrite out₀ at (take i (bytesOf 8 x)))
+Inv-loop out₀ at x i₀ out i = (i ≤ 8) × Copied out₀ at (bytesOf 8 x) i out
 
 abbrev μ-loop : tie.MeasureT-loop
 μ-loop out₀ at x i₀ out i = 8 - i
 
 loop-holds : tie.Need-loop-holds Inv-loop μ-loop
-loop-holds c = (omega arith, refl, over-zero _ _ (bytesOf 8 (c .args .x)))
+loop-holds c = (omega arith, copied-none _ _ _)
 
 sub-out : tie.Need-sub-out Inv-loop μ-loop
 sub-out c = omega arith
@@ -49,18 +46,14 @@ loop-again c =
     let a = c .before .before .args in
     let l = c .before .loop in (
       omega arith,
-      length-set (l .out) _ _ ∙ l .inv .1,
-      rw (l .inv .2) (over-next (a .out .now) (a .at) (bytesOf 8 (a .x)) (l .i) _ (omega (arith, length-bytes 8 (a .x))) (omega arith) (byte-shifted (a .x) (l .i) _ (omega arith) (omega arith))),
+      copied-next _ _ _ (l .i) _ _ (omega (arith, length-bytes 8 (a .x))) (omega arith) refl (byte-shifted (a .x) (l .i) _ (omega arith) (omega arith)) (l .inv .1),
     )
 
 same-length : tie.Need-same-length Inv-loop μ-loop
-same-length c = c .before .loop .inv .1
+same-length c = c .before .loop .inv .1 .size
 
 returns : tie.Need-returns Inv-loop μ-loop
-returns c =
-    let a = c .before .before .args in
-    c .before .loop .inv .2
-    ∙ ap (overwrite (a .out .now) (a .at)) (take-all (c .before .loop .i) (bytesOf 8 (a .x)) (omega (arith, length-bytes 8 (a .x))))
+returns c = copied-all _ _ _ (c .before .loop .i) (omega (arith, length-bytes 8 (c .before .before .args .x))) (c .before .loop .inv .1)
 
 pub put-word-spec : {M : Type 1} → statement M
 put-word-spec =

@@ -2,22 +2,22 @@
 use mathlib.Core.Path.{_≡_, refl, sym, ap, _∙_}
 use Prim.Native.Nat.{ℕ, _-_, _/_, _%_, _^_, _≤_}
 use native.Mathlib.Omega.{arith}
-use lib.ListN.{length, take}
-use Rattle.bits.specs.Stream.{bitsOf, toBits, overwrite}
-use Rattle.bits.proofs.StreamLaws.{length-bits, length-to-bits, getD-to-bits, take-to-bits}
-use Rattle.bits.proofs.OverwriteLaws.{over-zero, over-next}
+use lib.ListN.{length}
+use Rattle.bits.specs.Stream.{bitsOf, toBits}
+use Rattle.bits.proofs.StreamLaws.{length-bits, length-to-bits, getD-to-bits}
+use Rattle.bits.proofs.OverwriteLaws.{Copied, copied-none, copied-next, copied-all}
 use Rattle.bits.proofs.ByteLaws.{lowest-bit}
 use Rattle.bits.proofs.put.Statement.{statement}
 use Rattle.bits.proofs.put.Tie as tie
 
 abbrev Inv-loop : tie.InvT-loop
-Inv-loop out₀ at width v i₀ out i = (i ≤ width) × (length out ≡ length out₀) × (bitsOf out ≡ overwrite (bitsOf out₀) at (take i (toBits width v)))
+Inv-loop out₀ at width v i₀ out i = (i ≤ width) × (length out ≡ length out₀) × Copied (bitsOf out₀) at (toBits width v) i (bitsOf out)
 
 abbrev μ-loop : tie.MeasureT-loop
 μ-loop out₀ at width v i₀ out i = width - i
 
 loop-holds : tie.Need-loop-holds Inv-loop μ-loop
-loop-holds c = (omega arith, refl, over-zero _ _ (toBits (c .before .args .width) (c .before .args .v)))
+loop-holds c = (omega arith, refl, copied-none _ _ _)
 
 add-put-bit : tie.Need-add-put-bit Inv-loop μ-loop
 add-put-bit c = omega arith
@@ -47,12 +47,13 @@ loop-again c =
     let a = l .before .before .args in (
       omega arith,
       p .put-bit .kept .0 ∙ l .loop .inv .1,
-      p .put-bit .ensures
-          ∙ rw (l .loop .inv .2)
-          (over-next (bitsOf (a .out .now)) (a .at) (toBits (a .width) (a .v)) (l .loop .i) _
+      rw (p .put-bit .ensures)
+          (copied-next (bitsOf (a .out .now)) (a .at) (toBits (a .width) (a .v)) (l .loop .i) _ _
           (omega (arith, length-to-bits (a .width) (a .v)))
           (omega (arith, length-bits (a .out .now)))
-          (lowest-bit _ ∙ sym (getD-to-bits (a .width) (a .v) (l .loop .i) (omega arith) ∙ ap (λ (n : ℕ). a .v / 2 ^ n % 2) (omega arith)))),
+          refl
+          (lowest-bit _ ∙ sym (getD-to-bits (a .width) (a .v) (l .loop .i) (omega arith) ∙ ap (λ (n : ℕ). a .v / 2 ^ n % 2) (omega arith)))
+          (l .loop .inv .2)),
     )
 
 same-length : tie.Need-same-length Inv-loop μ-loop
@@ -61,9 +62,7 @@ same-length c = c .before .loop .inv .1
 returns : tie.Need-returns Inv-loop μ-loop
 returns c =
     let a = c .before .before .before .args in
-    let e : c .before .loop .i ≡ a .width = omega arith in
-    c .before .loop .inv .2
-    ∙ ap (overwrite (bitsOf (a .out .now)) (a .at)) (ap (λ n. take n (toBits (a .width) (a .v))) e ∙ take-to-bits (a .width) (a .v))
+    copied-all _ _ _ (c .before .loop .i) (omega (arith, length-to-bits (a .width) (a .v))) (c .before .loop .inv .2)
 
 pub put-spec : {M : Type 1} → statement M
 put-spec =

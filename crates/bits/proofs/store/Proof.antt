@@ -1,22 +1,20 @@
 -- After i turns the first i elements of the block are written. Assumes nothing.
-use mathlib.Core.Path.{_≡_, refl, ap, _∙_}
+use mathlib.Core.Path.{refl}
 use Prim.Native.Nat.{_-_, _≤_}
 use native.Mathlib.Omega.{arith}
-use lib.ListN.{length, take, length-set}
-use lib.Seq.{take-all}
-use Rattle.bits.specs.Stream.{overwrite}
-use Rattle.bits.proofs.OverwriteLaws.{over-zero, over-next}
+use lib.ListN.{length}
+use Rattle.bits.proofs.OverwriteLaws.{Copied, copied-none, copied-next, copied-all}
 use Rattle.bits.proofs.store.Statement.{statement}
 use Rattle.bits.proofs.store.Tie as tie
 
 abbrev Inv-loop : tie.InvT-loop
-Inv-loop list₀ at block i₀ list i = (i ≤ length block) × (length list ≡ length list₀) × (list ≡ overwrite list₀ at (take i block))
+Inv-loop list₀ at block i₀ list i = (i ≤ length block) × Copied list₀ at block i list
 
 abbrev μ-loop : tie.MeasureT-loop
 μ-loop list₀ at block i₀ list i = length block - i
 
 loop-holds : tie.Need-loop-holds Inv-loop μ-loop
-loop-holds c = (omega arith, refl, over-zero _ _ (c .args .block .now))
+loop-holds c = (omega arith, copied-none _ _ _)
 
 mul-list : tie.Need-mul-list Inv-loop μ-loop
 mul-list c = omega arith
@@ -42,19 +40,13 @@ loop-less c = omega arith
 loop-again : tie.Need-loop-again Inv-loop μ-loop
 loop-again c =
     let l = c .before .before in
-    let a = l .before .args in (
-      omega arith,
-      length-set (l .loop .list) _ _ ∙ l .loop .inv .1,
-      rw (l .loop .inv .2) (over-next (a .list .now) (a .at) (a .block .now) (l .loop .i) _ (omega arith) (omega arith) refl),
-    )
+    (omega arith, copied-next _ _ _ (l .loop .i) _ _ (omega arith) (omega arith) refl refl (l .loop .inv .1))
 
 same-length : tie.Need-same-length Inv-loop μ-loop
-same-length c = c .before .loop .inv .1
+same-length c = c .before .loop .inv .1 .size
 
 returns : tie.Need-returns Inv-loop μ-loop
-returns c =
-    let a = c .before .before .args in
-    c .before .loop .inv .2 ∙ ap (overwrite (a .list .now) (a .at)) (take-all (c .before .loop .i) (a .block .now) (omega arith))
+returns c = copied-all _ _ _ (c .before .loop .i) (omega arith) (c .before .loop .inv .1)
 
 pub store-spec : {M : Type 1} → statement M
 store-spec =

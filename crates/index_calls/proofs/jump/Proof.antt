@@ -41,8 +41,14 @@ slice-aggregate-point-2 c = search needs
 point-requires : tie.Need-point-requires
 point-requires c κs = (known-arrays _ (known (c .before .before .before .before .before .before)), omega arith)
 
-put-point-requires : tie.Need-put-point-requires
-put-point-requires c κs = omega (arith, axes-few _ (known (c .before .before .before .before .before .before .before .before)))
+array-share-prefix-x : tie.Need-array-share-prefix-x
+array-share-prefix-x c = ?
+
+slice-aggregate-store : tie.Need-slice-aggregate-store
+slice-aggregate-store c = ?
+
+store-requires : tie.Need-store-requires
+store-requires c κs = ?
 
 same-length : tie.Need-same-length
 same-length c = search needs

@@ -1,6 +1,6 @@
 -- `primitive::power_of_x` meets its contract. The loop's invariant: r is x to the exponent's digits passed. Assumes nothing.
 use mathlib.Core.Path.{_≡_, sym, ap, _∙_}
-use Prim.Native.Nat.{ℕ, _*_, _-_, _/_, _^_, _≤_}
+use Prim.Native.Nat.{ℕ, _*_, _/_, _^_, _≤_}
 use native.Mathlib.Omega.{arith}
 use native.Mathlib.Nat.{div-one}
 use denote.Ref.{now}
@@ -29,20 +29,20 @@ loop-holds c = let a = c .before .args in (omega arith, sym (ap (powerOfX (2 ^ (
 sub-place : tie.Need-sub-place Inv-loop μ-loop
 sub-place c = omega arith
 
-mixed-requires : tie.Need-mixed-requires Inv-loop μ-loop
-mixed-requires c κs = search needs
+combine-requires : tie.Need-combine-requires Inv-loop μ-loop
+combine-requires c κs = search needs
 
 shr-if1 : tie.Need-shr-if1 Inv-loop μ-loop
 shr-if1 c = omega arith
 
 -- the square of the power of the digits passed
-squared : (c : tie.After-mixed Inv-loop μ-loop) →
+squared : (c : tie.After-combine Inv-loop μ-loop) →
     let a = c .before .before .before .before .args in
-    c .mixed .result ≡ powerOfX (2 ^ (a .d)) (a .p) (a .e / 2 ^ (c .before .before .loop .place) * 2)
+    c .combine .result ≡ powerOfX (2 ^ (a .d)) (a .p) (a .e / 2 ^ (c .before .before .loop .place) * 2)
 squared c =
     let s = c .before .before .before .before in
     let l = c .before .before .loop in
-    rw (l .inv .1) at (c .mixed .ensures) ∙ power-squared (s .args .d) (s .args .p) (s .pre .0) (s .pre .2) (now (s .args .words)) (s .pre .3) (s .args .e / 2 ^ (l .place))
+    rw (l .inv .1) at (c .combine .ensures) ∙ power-squared (s .args .d) (s .args .p) (s .pre .0) (s .pre .2) (now (s .args .words)) (s .pre .3) (s .args .e / 2 ^ (l .place))
 
 times-x-requires : tie.Need-times-x-requires Inv-loop μ-loop
 times-x-requires c κs =
@@ -95,7 +95,7 @@ power-of-x-spec =
     shl-top
     loop-holds
     sub-place
-    mixed-requires
+    combine-requires
     shr-if1
     times-x-requires
     loop-less

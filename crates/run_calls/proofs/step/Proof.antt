@@ -44,8 +44,14 @@ returns-3 c =
     let w = step-refused (a .s) (a .out .now) 12 (run-no-room (a .s) (a .out .now) (known (c .before .before .before .before)) (omega arith) (omega arith)) in
     (c .refused3 .ensures ∙ sym (w .0), sym (w .1))
 
-put-point-requires : tie.Need-put-point-requires
-put-point-requires c κs = omega (arith, axes-few _ (known (c .before .before .before .before .before)))
+array-share-prefix-x : tie.Need-array-share-prefix-x
+array-share-prefix-x c = ?
+
+slice-aggregate-store : tie.Need-slice-aggregate-store
+slice-aggregate-store c = ?
+
+store-requires : tie.Need-store-requires
+store-requires c κs = ?
 
 advanced-requires : tie.Need-advanced-requires
 advanced-requires c κs = (known (c .before .before .before .before .before .before .before .before), omega arith)

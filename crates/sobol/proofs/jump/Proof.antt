@@ -4,21 +4,21 @@ use mathlib.Core.List.{List}
 use Prim.Native.Nat.{ℕ}
 use borrow.Author.Needs.{needs}
 use Rattle.binary.specs.Gray.{gray}
-use Rattle.binary.specs.Gf2.{mix}
+use Rattle.binary.specs.Gf2.{combination}
 use Rattle.sobol.specs.Stepping.{stepped, jumped}
 use Rattle.sobol.proofs.SteppingLaws.{jump-is-stepped}
 use Rattle.sobol.proofs.jump.Statement.{statement}
 use Rattle.sobol.proofs.jump.Tie as tie
 
-whole : (vs : List ℕ) (n : ℕ) → mix vs (gray n) ≡ stepped vs n
+whole : (vs : List ℕ) (n : ℕ) → combination vs (gray n) ≡ stepped vs n
 unfolding jumped
 whole vs n = jump-is-stepped vs n
 
-mixed-requires : tie.Need-mixed-requires
-mixed-requires c κs = search needs
+combine-requires : tie.Need-combine-requires
+combine-requires c κs = search needs
 
 returns : tie.Need-returns
-returns c = c .mixed .ensures ∙ whole (c .before .before .args .v .now) (c .before .before .args .n)
+returns c = c .combine .ensures ∙ whole (c .before .before .args .v .now) (c .before .before .args .n)
 
 pub jump-spec : {M : Type 1} → statement M
-jump-spec = tie.close (tie.spec mixed-requires returns)
+jump-spec = tie.close (tie.spec combine-requires returns)

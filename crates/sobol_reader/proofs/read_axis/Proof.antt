@@ -5,7 +5,7 @@ use native.Mathlib.Omega.{arith}
 use lib.ListN.{length}
 use Rattle.plan.specs.Reading.{polynomialOf}
 use Rattle.plan.proofs.PartLaws.{long-field}
-use Rattle.sobol_reader.proofs.AxisLaws.{DegreeRead, PolynomialRead, polynomial-fits, axis-short, axis-high, axis-cut, axis-unfit, axis-stop, axis-end}
+use Rattle.sobol_reader.proofs.AxisLaws.{DegreeRead, PolynomialRead, polynomial-fits, axis-short, axis-high, axis-cut, axis-unfit, axis-twin, axis-stop, axis-end}
 use Rattle.sobol_reader.proofs.read_axis.Statement.{statement}
 use Rattle.sobol_reader.proofs.read_axis.Tie as tie
 
@@ -96,31 +96,40 @@ returns-4 c =
 is-repeated-requires : tie.Need-is-repeated-requires
 is-repeated-requires c κs = omega arith
 
-add-read-ms : tie.Need-add-read-ms
-add-read-ms c = omega arith
-
-read-ms-requires : tie.Need-read-ms-requires
-read-ms-requires c κs = omega (arith, after-coefficients (c .before .before .before .before .before))
-
-first-refusal-requires : tie.Need-first-refusal-requires
-first-refusal-requires c κs = tt
-
 no-axis-requires-5 : tie.Need-no-axis-requires-5
 no-axis-requires-5 c κs = tt
 
 returns-5 : tie.Need-returns-5
 returns-5 c =
-    let f = c .before .before in
-    let u = f .before .before .before .before in
-    axis-stop _ _ _ _ (polynomial (u .before)) (u .not-primitive .ensures) (f .before .before .before .if4 .left) (f .before .before .is-repeated .ensures)
-    (f .before .read-ms .ensures) (f .first-refusal .ensures) (λ z. omega arith) _ _ _ _ _ (c .no-axis5 .ensures)
+    let t = c .before .before in
+    let u = t .before .before in
+    axis-twin _ _ _ _ (polynomial (u .before)) (u .not-primitive .ensures) (t .before .if4 .left) (t .is-repeated .ensures) (c .before .if5 .taken)
+    _ _ _ _ _ (omega arith, omega arith, omega arith, c .no-axis5 .ensures .3)
+
+add-read-ms : tie.Need-add-read-ms
+add-read-ms c = omega arith
+
+read-ms-requires : tie.Need-read-ms-requires
+read-ms-requires c κs = omega (arith, after-coefficients (c .before .before .before .before .before .before))
+
+no-axis-requires-6 : tie.Need-no-axis-requires-6
+no-axis-requires-6 c κs = tt
 
 returns-6 : tie.Need-returns-6
 returns-6 c =
-    let f = c .before .before in
-    let u = f .before .before .before .before in
-    axis-end _ _ _ _ (polynomial (u .before)) (u .not-primitive .ensures) (f .before .before .before .if4 .left) (f .before .before .is-repeated .ensures)
-    (f .before .read-ms .ensures) (f .first-refusal .ensures) (omega arith)
+    let m = c .before .before .before in
+    let t = m .before .before in
+    let u = t .before .before in
+    axis-stop _ _ _ _ (polynomial (u .before)) (u .not-primitive .ensures) (t .before .if4 .left) (t .is-repeated .ensures) (m .before .if5 .left)
+    (m .read-ms .ensures) (λ z. omega arith) _ _ _ _ _ (c .no-axis6 .ensures)
+
+returns-7 : tie.Need-returns-7
+returns-7 c =
+    let m = c .before .before .before in
+    let t = m .before .before in
+    let u = t .before .before in
+    axis-end _ _ _ _ (polynomial (u .before)) (u .not-primitive .ensures) (t .before .if4 .left) (t .is-repeated .ensures) (m .before .if5 .left)
+    (m .read-ms .ensures) (omega arith)
 
 pub read-axis-spec : {M : Type 1} → statement M
 read-axis-spec =
@@ -143,9 +152,10 @@ read-axis-spec =
     no-axis-requires-4
     returns-4
     is-repeated-requires
-    add-read-ms
-    read-ms-requires
-    first-refusal-requires
     no-axis-requires-5
     returns-5
-    returns-6)
+    add-read-ms
+    read-ms-requires
+    no-axis-requires-6
+    returns-6
+    returns-7)

@@ -1,17 +1,16 @@
 -- After i turns the first i digits are put, and the next one has the weight at hand. Assumes nothing.
-use mathlib.Core.Path.{_≡_}
-use Prim.Native.Nat.{_+_, _-_, _≤_}
+use mathlib.Core.Path.{_≡_, refl}
+use Prim.Native.Nat.{_-_, _≤_}
 use native.Mathlib.Omega.{arith}
-use lib.ListN.{take}
 use Rattle.text.specs.Decimal.{decimalDigits}
-use Rattle.text.specs.Put.{Put}
-use Rattle.text.proofs.PutLaws.{first-none, first-next, first-all}
+use Rattle.bits.proofs.OverwriteLaws.{Copied, copied-none, copied-next}
+use Rattle.text.proofs.PutLaws.{put-all}
 use Rattle.text.proofs.DecimalLaws.{length-digits, weightOf, weight-fits, weight-first, weight-pos, weight-next, digit-at}
 use Rattle.text.proofs.put_digits.Statement.{statement}
 use Rattle.text.proofs.put_digits.Tie as tie
 
 abbrev Inv-loop : tie.InvT-loop
-Inv-loop out₀ at k n weight₀ i₀ out weight i = (i ≤ k) × (weight ≡ weightOf k i) × Put out₀ out at (take i (decimalDigits k n)) (at + i)
+Inv-loop out₀ at k n weight₀ i₀ out weight i = (i ≤ k) × (weight ≡ weightOf k i) × Copied out₀ at (decimalDigits k n) i out
 
 abbrev μ-loop : tie.MeasureT-loop
 μ-loop out₀ at k n weight₀ i₀ out weight i = k - i
@@ -23,10 +22,7 @@ power-requires : tie.Need-power-requires Inv-loop μ-loop
 power-requires c κs = omega (arith, weight-fits (c .before .args .k) (omega arith))
 
 loop-holds : tie.Need-loop-holds Inv-loop μ-loop
-loop-holds c =
-    let a = c .before .before .args in
-    let k = a .k in
-    (omega arith, omega (arith, weight-first k (omega arith)), first-none (a .out .now) (a .at) (decimalDigits k (a .n)))
+loop-holds c = (omega arith, omega (arith, weight-first (c .before .before .args .k) (omega arith)), copied-none _ _ _)
 
 div-out : tie.Need-div-out Inv-loop μ-loop
 div-out c =
@@ -59,7 +55,7 @@ loop-again c =
     let i = l .loop .i in (
       omega arith,
       omega (arith, weight-next k i (omega arith)),
-      first-next (a .out .now) (a .at) (decimalDigits k (a .n)) i _ (omega (arith, length-digits k (a .n))) (omega arith) (rw (l .loop .inv .1) (digit-at k (a .n) i (omega arith))) (l .loop .inv .2),
+      copied-next _ _ _ i _ _ (omega (arith, length-digits k (a .n))) (omega arith) refl (rw (l .loop .inv .1) (digit-at k (a .n) i (omega arith))) (l .loop .inv .2),
     )
 
 add-result : tie.Need-add-result Inv-loop μ-loop
@@ -72,8 +68,7 @@ returns : tie.Need-returns Inv-loop μ-loop
 returns c =
     let l = c .before in
     let a = l .before .before .before .args in
-    let k = a .k in
-    (first-all (a .out .now) (a .at) (decimalDigits k (a .n)) (l .loop .i) (omega (arith, length-digits k (a .n))) (l .loop .inv .2), omega arith)
+    (put-all (l .loop .i) (omega (arith, length-digits (a .k) (a .n))) (l .loop .inv .2), omega arith)
 
 pub put-digits-spec : {M : Type 1} → statement M
 put-digits-spec =

@@ -3,7 +3,7 @@ use borrow.Author.Needs.{needs}
 use mathlib.Core.Path.{_≡_, subst}
 use Prim.Native.Nat.{ℕ, _+_, _*_, _-_, _≤_}
 use native.Mathlib.Omega.{arith}
-use Rattle.text.specs.Put.{Put}
+use Rattle.text.specs.Put.{TextPut}
 use Rattle.walk_text.specs.Parts.{fractionsAt}
 use Rattle.walk_text.proofs.PutLaws.{no-fraction, next-fraction}
 use Rattle.walk_text.proofs.ArrayLaws.{numerator-at-lt, denominator-at-lt}
@@ -11,7 +11,7 @@ use Rattle.walk_text.proofs.put_fractions.Statement.{statement}
 use Rattle.walk_text.proofs.put_fractions.Tie as tie
 
 abbrev Inv-loop : tie.InvT-loop
-Inv-loop out₀ start family axes bases directions n at₀ i₀ out at i = (i ≤ axes) × (at ≤ start + 28 * i) × Put out₀ out start (fractionsAt family bases directions n i) at
+Inv-loop out₀ start family axes bases directions n at₀ i₀ out at i = (i ≤ axes) × (at ≤ start + 28 * i) × TextPut out₀ out start (fractionsAt family bases directions n i) at
 
 abbrev μ-loop : tie.MeasureT-loop
 μ-loop out₀ start family axes bases directions n at₀ i₀ out at i = axes - i
@@ -57,7 +57,7 @@ returns c =
     let l = c .before in
     let a = l .before .before .before .before .args in
     let e : l .loop .i ≡ a .axes = omega arith in
-    (subst (λ (k : ℕ). Put (a .out .now) (l .loop .out) (a .start) (fractionsAt (a .family) (a .bases .now) (a .directions .now) (a .n) k) (l .loop .at)) e (l .loop .inv .2), omega arith)
+    (subst (λ (k : ℕ). TextPut (a .out .now) (l .loop .out) (a .start) (fractionsAt (a .family) (a .bases .now) (a .directions .now) (a .n) k) (l .loop .at)) e (l .loop .inv .2), omega arith)
 
 pub put-fractions-spec : {M : Type 1} → statement M
 put-fractions-spec =

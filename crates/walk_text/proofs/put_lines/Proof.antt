@@ -3,14 +3,14 @@ use borrow.Author.Needs.{needs}
 use mathlib.Core.Path.{_≡_, subst}
 use Prim.Native.Nat.{ℕ, _+_, _*_, _-_, _≤_}
 use native.Mathlib.Omega.{arith}
-use Rattle.text.specs.Put.{Put}
+use Rattle.text.specs.Put.{TextPut}
 use Rattle.walk_text.specs.Parts.{linesAt}
 use Rattle.walk_text.proofs.PutLaws.{no-line, next-line}
 use Rattle.walk_text.proofs.put_lines.Statement.{statement}
 use Rattle.walk_text.proofs.put_lines.Tie as tie
 
 abbrev Inv-loop : tie.InvT-loop
-Inv-loop out₀ start family axes bases directions at₀ n₀ out at n = (n ≤ 4) × (at ≤ start + 200 * n) × Put out₀ out start (linesAt family axes bases directions n) at
+Inv-loop out₀ start family axes bases directions at₀ n₀ out at n = (n ≤ 4) × (at ≤ start + 200 * n) × TextPut out₀ out start (linesAt family axes bases directions n) at
 
 abbrev μ-loop : tie.MeasureT-loop
 μ-loop out₀ start family axes bases directions at₀ n₀ out at n = 4 - n
@@ -44,7 +44,7 @@ returns c =
     let l = c .before in
     let a = l .before .before .before .before .args in
     let e : l .loop .n ≡ 4 = omega arith in
-    (subst (λ (k : ℕ). Put (a .out .now) (l .loop .out) (a .start) (linesAt (a .family) (a .axes) (a .bases .now) (a .directions .now) k) (l .loop .at)) e (l .loop .inv .2), omega arith)
+    (subst (λ (k : ℕ). TextPut (a .out .now) (l .loop .out) (a .start) (linesAt (a .family) (a .axes) (a .bases .now) (a .directions .now) k) (l .loop .at)) e (l .loop .inv .2), omega arith)
 
 pub put-lines-spec : {M : Type 1} → statement M
 put-lines-spec =

@@ -1,6 +1,9 @@
 -- The plan's bits and the zero bits after them fill the first bytes of the buffer, and these are copied where there is room. Assumes nothing.
 use borrow.Author.Needs.{needs}
+use mathlib.Core.Path.{sym}
 use native.Mathlib.Omega.{arith}
+use lib.ListN.{length-take}
+use lib.Seq.{length-take-le}
 use Rattle.bits.proofs.PackLaws.{as-bytes}
 use Rattle.plan.specs.Answer.{planOf}
 use Rattle.axes_writer.proofs.PartLaws.{put-field}
@@ -36,11 +39,14 @@ returns c =
     let p = planOf (a .family) (a .axes) (a .bases .now) (a .polynomials .now) (a .ms .now) in
     no-room p _ (plan .put-plan .ensures .0) (as-bytes _) (a .out .now) (omega arith)
 
+array-share-prefix-buffer : tie.Need-array-share-prefix-buffer
+array-share-prefix-buffer c = omega arith
+
 slice-aggregate-copy : tie.Need-slice-aggregate-copy
-slice-aggregate-copy c = search needs
+slice-aggregate-copy c = sym (length-take-le _ _ (omega arith))
 
 copy-requires : tie.Need-copy-requires
-copy-requires c κs = omega arith
+copy-requires c κs = simp length-take (omega arith)
 
 same-length : tie.Need-same-length
 same-length c = search needs
@@ -68,6 +74,7 @@ write-plan-spec =
     sub-put
     put-requires
     returns
+    array-share-prefix-buffer
     slice-aggregate-copy
     copy-requires
     same-length

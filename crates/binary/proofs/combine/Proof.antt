@@ -1,16 +1,16 @@
--- `binary::mixed` meets its contract. The loop's invariant: x with what the digits left pick from the rest of the words is the whole. Assumes nothing.
+-- `binary::combine` meets its contract. The loop's invariant: x with what the digits left pick from the rest of the words is the whole. Assumes nothing.
 use mathlib.Core.Path.{_≡_, refl, sym, ap, _∙_}
 use Prim.Native.Nat.{_-_, _%_, _≤_}
 use native.Mathlib.Omega.{arith}
 use lib.Bits.{bitXor, xor-zero-r}
 use lib.ListN.{length, getD, drop}
-use Rattle.binary.specs.Gf2.{mix}
-use Rattle.binary.proofs.MixLaws.{mix-turn, mix-past, times-masked, times-at-most}
-use Rattle.binary.proofs.mixed.Statement.{statement}
-use Rattle.binary.proofs.mixed.Tie as tie
+use Rattle.binary.specs.Gf2.{combination}
+use Rattle.binary.proofs.CombinationLaws.{combination-turn, combination-past, times-masked, times-at-most}
+use Rattle.binary.proofs.combine.Statement.{statement}
+use Rattle.binary.proofs.combine.Tie as tie
 
 abbrev Inv-loop : tie.InvT-loop
-Inv-loop words g digits₀ x₀ j₀ digits x j = (j ≤ length words) × (bitXor x (mix (drop j words) digits) ≡ mix words g)
+Inv-loop words g digits₀ x₀ j₀ digits x j = (j ≤ length words) × (bitXor x (combination (drop j words) digits) ≡ combination words g)
 
 abbrev μ-loop : tie.MeasureT-loop
 μ-loop words g digits₀ x₀ j₀ digits x j = length words - j
@@ -41,7 +41,7 @@ loop-again c =
     let a = c .before .before .before .args in
     let l = c .before .before .loop in (
       omega arith,
-      mix-turn (a .words .now) (l .j) (l .digits) (l .x) _ (mix (a .words .now) (a .g))
+      combination-turn (a .words .now) (l .j) (l .digits) (l .x) _ (combination (a .words .now) (a .g))
           (ap (bitXor (l .x)) (times-masked (l .digits) (getD (a .words .now) (l .j) 0)))
           (l .inv .1),
     )
@@ -50,10 +50,10 @@ returns : tie.Need-returns Inv-loop μ-loop
 returns c =
     let a = c .before .before .args in
     let l = c .before .loop in
-    sym (xor-zero-r (l .x)) ∙ ap (bitXor (l .x)) (sym (mix-past (a .words .now) (l .j) (l .digits) (omega arith))) ∙ l .inv .1
+    sym (xor-zero-r (l .x)) ∙ ap (bitXor (l .x)) (sym (combination-past (a .words .now) (l .j) (l .digits) (omega arith))) ∙ l .inv .1
 
-pub mixed-spec : {M : Type 1} → statement M
-mixed-spec =
+pub combine-spec : {M : Type 1} → statement M
+combine-spec =
     tie.close
     (tie.spec
     Inv-loop

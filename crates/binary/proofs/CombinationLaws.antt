@@ -1,5 +1,5 @@
--- `mix`, the sum over two elements of the words that a number's digits pick: it is linear, reads one word at a power of two, and goes through
--- the list from its front. Assumes nothing.
+-- Linear combinations of words over two elements, by a number's digits: they are linear in the number, are one word at a power of two, and go
+-- through the list from its front. Assumes nothing.
 use mathlib.Core.Path.{_≡_, refl, sym, ap, ap₂, _∙_}
 use mathlib.Core.List.{List, [], _∷_}
 use mathlib.Core.Logic.{⊎-elim}
@@ -10,7 +10,7 @@ use native.Mathlib.Nat.{not-suc-le-zero, le-of-suc-le-suc, pow-suc}
 use lib.ListN.{length, getD, drop}
 use lib.Pow.{pow-pos}
 use lib.Bits.{bitXor, bitAnd, and-mask, xor-zero-r, xor-self}
-use Rattle.binary.specs.Gf2.{times, mix}
+use Rattle.binary.specs.Gf2.{times, combination}
 use Rattle.numbers.proofs.Cases.{even-or-odd}
 use Rattle.binary.proofs.XorLaws.{xor-half, xor-digit, xor-assoc, xor-swap}
 
@@ -56,27 +56,27 @@ times-set g v e = ap (λ (d : ℕ). times d v) (sym e ∙ and-mask g 1)
 pub times-clear : (g v : ℕ) → (bitAnd g 1 ≡ 1 → ⊥) → 0 ≡ times (g % 2) v
 times-clear g v unset = ap (λ (d : ℕ). times d v) (⊎-elim (λ e. sym e) (λ o. absurd (unset (and-mask g 1 ∙ o))) (even-or-odd g))
 
--- ---- mix is linear
+-- ---- it is linear in the number
 
-pub mix-xor : (vs : List ℕ) (a b : ℕ) → mix vs (bitXor a b) ≡ bitXor (mix vs a) (mix vs b)
-unfolding mix
-mix-xor [] a b = refl
-mix-xor (v ∷ vs) a b =
-    ap₂ bitXor (times-digit-xor v a b) (ap (mix vs) (xor-half a b) ∙ mix-xor vs (a / 2) (b / 2))
-    ∙ xor-swap (times (a % 2) v) (times (b % 2) v) (mix vs (a / 2)) (mix vs (b / 2))
+pub combination-xor : (vs : List ℕ) (a b : ℕ) → combination vs (bitXor a b) ≡ bitXor (combination vs a) (combination vs b)
+unfolding combination
+combination-xor [] a b = refl
+combination-xor (v ∷ vs) a b =
+    ap₂ bitXor (times-digit-xor v a b) (ap (combination vs) (xor-half a b) ∙ combination-xor vs (a / 2) (b / 2))
+    ∙ xor-swap (times (a % 2) v) (times (b % 2) v) (combination vs (a / 2)) (combination vs (b / 2))
 
-pub mix-zero : (vs : List ℕ) → mix vs 0 ≡ 0
-unfolding mix
-mix-zero [] = refl
-mix-zero (v ∷ vs) = mix-zero vs
+pub combination-zero : (vs : List ℕ) → combination vs 0 ≡ 0
+unfolding combination
+combination-zero [] = refl
+combination-zero (v ∷ vs) = combination-zero vs
 
 -- one digit picks one word
-pub mix-pow : (vs : List ℕ) (j : ℕ) → mix vs (2 ^ j) ≡ getD vs j 0
-unfolding mix
-mix-pow [] zero = refl
-mix-pow [] (suc j) = refl
-mix-pow (v ∷ vs) zero = ap (bitXor v) (mix-zero vs) ∙ xor-zero-r v
-mix-pow (v ∷ vs) (suc j) = ap₂ (λ (d h : ℕ). bitXor (times d v) (mix vs h)) even half ∙ mix-pow vs j
+pub combination-pow : (vs : List ℕ) (j : ℕ) → combination vs (2 ^ j) ≡ getD vs j 0
+unfolding combination
+combination-pow [] zero = refl
+combination-pow [] (suc j) = refl
+combination-pow (v ∷ vs) zero = ap (bitXor v) (combination-zero vs) ∙ xor-zero-r v
+combination-pow (v ∷ vs) (suc j) = ap₂ (λ (d h : ℕ). bitXor (times d v) (combination vs h)) even half ∙ combination-pow vs j
   where
     even : 2 ^ suc j % 2 ≡ 0
     even = omega (arith, pow-suc 2 j)
@@ -90,24 +90,24 @@ times-none : (d : ℕ) → 0 ≡ bitXor (times d 0) 0
 times-none zero = refl
 times-none (suc d) = refl
 
-pub mix-drop : (vs : List ℕ) (j g : ℕ) → mix (drop j vs) g ≡ bitXor (times (g % 2) (getD vs j 0)) (mix (drop (suc j) vs) (g / 2))
-unfolding mix
-mix-drop [] zero g = times-none (g % 2)
-mix-drop [] (suc j) g = times-none (g % 2)
-mix-drop (v ∷ vs) zero g = refl
-mix-drop (v ∷ vs) (suc j) g = mix-drop vs j g
+pub combination-drop : (vs : List ℕ) (j g : ℕ) → combination (drop j vs) g ≡ bitXor (times (g % 2) (getD vs j 0)) (combination (drop (suc j) vs) (g / 2))
+unfolding combination
+combination-drop [] zero g = times-none (g % 2)
+combination-drop [] (suc j) g = times-none (g % 2)
+combination-drop (v ∷ vs) zero g = refl
+combination-drop (v ∷ vs) (suc j) g = combination-drop vs j g
 
-pub mix-past : (vs : List ℕ) (j g : ℕ) → length vs ≤ j → mix (drop j vs) g ≡ 0
-unfolding mix
-mix-past [] zero g h = refl
-mix-past [] (suc j) g h = refl
-mix-past (v ∷ vs) zero g h = absurd (not-suc-le-zero h)
-mix-past (v ∷ vs) (suc j) g h = mix-past vs j g (le-of-suc-le-suc h)
+pub combination-past : (vs : List ℕ) (j g : ℕ) → length vs ≤ j → combination (drop j vs) g ≡ 0
+unfolding combination
+combination-past [] zero g h = refl
+combination-past [] (suc j) g h = refl
+combination-past (v ∷ vs) zero g h = absurd (not-suc-le-zero h)
+combination-past (v ∷ vs) (suc j) g h = combination-past vs j g (le-of-suc-le-suc h)
 
 -- One turn of a jump's loop: x becomes y, and x with what is left of the list is the whole.
-pub mix-turn : (vs : List ℕ) (j g x y whole : ℕ) → y ≡ bitXor x (times (g % 2) (getD vs j 0)) → bitXor x (mix (drop j vs) g) ≡ whole
-    → bitXor y (mix (drop (j + 1) vs) (g / 2)) ≡ whole
-mix-turn vs j g x y whole e h =
-    ap₂ (λ (y k : ℕ). bitXor y (mix (drop k vs) (g / 2))) e (add-one j)
-    ∙ xor-assoc x (times (g % 2) (getD vs j 0)) (mix (drop (suc j) vs) (g / 2))
-    ∙ ap (bitXor x) (sym (mix-drop vs j g)) ∙ h
+pub combination-turn : (vs : List ℕ) (j g x y whole : ℕ) → y ≡ bitXor x (times (g % 2) (getD vs j 0)) → bitXor x (combination (drop j vs) g) ≡ whole
+    → bitXor y (combination (drop (j + 1) vs) (g / 2)) ≡ whole
+combination-turn vs j g x y whole e h =
+    ap₂ (λ (y k : ℕ). bitXor y (combination (drop k vs) (g / 2))) e (add-one j)
+    ∙ xor-assoc x (times (g % 2) (getD vs j 0)) (combination (drop (suc j) vs) (g / 2))
+    ∙ ap (bitXor x) (sym (combination-drop vs j g)) ∙ h
