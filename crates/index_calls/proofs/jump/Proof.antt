@@ -4,9 +4,10 @@ use mathlib.Core.Bool.{true, false}
 use Prim.Native.Nat.{_-_}
 use native.Mathlib.Omega.{arith}
 use borrow.Author.Needs.{needs}
+use lib.ListN.{length, take}
 use Rattle.state.specs.State.{genuine}
 use Rattle.calls.proofs.CaseLaws.{foreign-of, known-of, jump-foreign, jump-out, jump-no-room, jump-done}
-use Rattle.calls.proofs.PointLaws.{axes-few, point-put, known-arrays}
+use Rattle.calls.proofs.PointLaws.{axes-few, point-put, front-long, known-arrays}
 use Rattle.index_calls.proofs.jump.Statement.{statement}
 use Rattle.index_calls.proofs.jump.Tie as tie
 
@@ -41,14 +42,18 @@ slice-aggregate-point-2 c = search needs
 point-requires : tie.Need-point-requires
 point-requires c κs = (known-arrays _ (known (c .before .before .before .before .before .before)), omega arith)
 
+-- the words that are stored are the point's, one an axis
+front : (c : tie.After-point) → let a = c .before .before .before .before .before .before .before .before .before .before .args in length (take (a .s .axes) (c .point .result)) ≡ a .s .axes
+front c = let a = c .before .before .before .before .before .before .before .before .before .before .args in front-long (a .s) (known (c .before .before .before .before .before .before .before)) (c .point .result) (a .n) (c .point .ensures)
+
 array-share-prefix-x : tie.Need-array-share-prefix-x
-array-share-prefix-x c = ?
+array-share-prefix-x c = omega (arith, axes-few _ (known (c .before .before .before .before .before .before .before .before)))
 
 slice-aggregate-store : tie.Need-slice-aggregate-store
-slice-aggregate-store c = ?
+slice-aggregate-store c = sym (front (c .before .before))
 
 store-requires : tie.Need-store-requires
-store-requires c κs = ?
+store-requires c κs = omega (arith, front (c .before .before))
 
 same-length : tie.Need-same-length
 same-length c = search needs
@@ -56,10 +61,10 @@ same-length c = search needs
 returns-4 : tie.Need-returns-4
 returns-4 c =
     let p = c .before .before in
-    let s = p .before .before .before .before .before .before .before .before .before in
+    let s = p .before .before .before .before .before .before .before .before .before .before in
     let a = s .before .before .before .args in
     let w = jump-done (a .s) (a .n) (a .out .now) (known s) (omega arith) (omega arith) in
-    (sym (w .0), point-put (a .s) (known s) (a .out .now) _ _ (a .n) (p .before .before .point .ensures) (p .put-point .ensures) ∙ sym (w .1))
+    (sym (w .0), point-put (a .s) (known s) (a .out .now) _ _ (a .n) (p .before .before .before .point .ensures) (p .store .ensures) ∙ sym (w .1))
 
 pub jump-spec : {M : Type 1} → statement M
 jump-spec =
@@ -72,6 +77,8 @@ jump-spec =
     slice-aggregate-point
     slice-aggregate-point-2
     point-requires
-    put-point-requires
+    array-share-prefix-x
+    slice-aggregate-store
+    store-requires
     same-length
     returns-4)
