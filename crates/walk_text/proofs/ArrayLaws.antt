@@ -14,6 +14,7 @@ use Rattle.sobol.specs.Stepping.{stepped}
 use Rattle.sobol.proofs.SteppingLaws.{stepped-lt}
 use Rattle.plan.specs.Plan.{Plan, Valid}
 use Rattle.points.specs.Point.{axisCount, numeratorOf, denominatorOf}
+use Rattle.points.specs.Run.{Run}
 use Rattle.points.specs.Arrays.{familyOf, basesArray, directionsArray, directionsAt, numeratorAt, denominatorAt, Arrays}
 use Rattle.points.proofs.ArrayLaws.{arrays-of, numerator-by-part, numerator-by-base, denominator-by-two, denominator-by-base, numerator-at-plan, denominator-at-plan}
 use Rattle.state.specs.State.{made}
@@ -82,7 +83,7 @@ module _ (p : Plan) (v : Valid p) where
 
 -- ---- by the arrays of a state of the plan
 
-module _ (p : Plan) (v : Valid p) (start count taken : ℕ) (s : Sampler) (e : s ≡ made p start count taken) where
+module _ (p : Plan) (v : Valid p) (r : Run) (taken : ℕ) (s : Sampler) (e : s ≡ made p r taken) where
   pub made-arrays : Arrays (s .family) (s .axes) (s .bases) (s .directions)
   unfolding made
   made-arrays = rw e (arrays-of p v)
