@@ -1,8 +1,9 @@
 -- Many points of a Halton axis in a row: those from an index on, and the tables that give them. Definitions only.
 use mathlib.Core.List.{List}
 use Prim.Native.Nat.{ℕ, _+_, _≤_}
+use Rattle.numbers.specs.Listed.{Begins}
 use Rattle.permutation.specs.Families.{imageOf}
-use Rattle.images.specs.Images.{imageIn, Imaged}
+use Rattle.images.specs.Images.{imageIn}
 use Rattle.halton.specs.Axis.{numerator}
 use Rattle.tables.specs.Tables.{Table}
 
@@ -13,5 +14,5 @@ haltonFrom family b n i = numerator (imageOf family b) b (n + i)
 -- l are the images of the digits of base b, and t begins with the first `size` points of the axis
 pub record Made (family b size : ℕ) (l t : List ℕ) : Type 0 where
   pub few : size ≤ 256
-  pub images : Imaged (imageOf family b) b l
+  pub images : Begins (imageOf family b) b l
   pub table : Table (imageIn l) b size t

@@ -10,7 +10,7 @@ use native.Mathlib.Numerals.{add-one}
 use native.Mathlib.Nat.{not-suc-le-zero, le-refl, lt-of-lt-of-le, zero-add, add-zero, zero-mul}
 use lib.Pow.{pow-pos, pow-mono, shl-lt, shl-exact}
 use lib.ListN.{length, getD, take, set, length-append, List·getD-append, List·getD-eq-default}
-use lib.Seq.{getD-at, getD-take, getD-set-same, getD-set-other, take-suc-set}
+use lib.Seq.{getD-at, getD-take, take-suc-set}
 use lib.Bits.{bitXor, bitAnd, xor-lt, xor-zero-r, shifted-even}
 use borrow.Author.Tests.{lt-ltb, le-ltb}
 use Rattle.binary.specs.Gf2.{times}
@@ -218,12 +218,3 @@ module _ (d p : ℕ) (given : List ℕ) (i : ℕ) (m : List ℕ) (front : take i
   unfolding AllOddBelow
   odd-below-front g j h =
       subst (OddBelow j) (ap (λ (l : List ℕ). getD l j 0) (sym front) ∙ getD-take i m j 0 h) (m-list-odd-below d p given g i j h)
-
--- ---- one turn of a loop that stores f i at i: a list that agrees with f below i then agrees below i + 1
-
-pub set-more : (f : ℕ → ℕ) (v : List ℕ) (i x : ℕ) → i < length v → x ≡ f i → ((k : ℕ) → k < i → getD v k 0 ≡ f k)
-    → (k : ℕ) → k < i + 1 → getD (set v i x) k 0 ≡ f k
-set-more f v i x h e before k l =
-    ⊎-elim (λ b. getD-set-other v i k x 0 (omega arith) ∙ before k b)
-    (λ b. let s : k ≡ i = omega arith in rw s (getD-set-same v i x 0 h ∙ e))
-    (lt-or-ge k i)

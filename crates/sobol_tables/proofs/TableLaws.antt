@@ -1,23 +1,20 @@
 -- Points of a Sobol axis are linear in the index: the digits of a multiple of 2^k and of a number below 2^k don't overlap, so the first 2^k
 -- points and one number give every later run of 2^k points. Assumes nothing.
 use mathlib.Core.Path.{_≡_, sym, ap, ap₂, _∙_}
-use mathlib.Core.Logic.{⊎-elim}
 use mathlib.Core.List.{List}
 use Prim.Native.Nat.{ℕ, _+_, _-_, _*_, _/_, _%_, _^_, _<_, _≤_}
 use native.Mathlib.Nat.{div-add-mod'}
 use native.Mathlib.Omega.{arith}
-use lib.ListN.{length, getD, set}
+use lib.ListN.{getD}
 use lib.Pow.{pow-pos}
 use lib.Bits.{bitXor, xor-shifted}
-use lib.Seq.{getD-set-same, getD-set-other}
-use Rattle.numbers.proofs.Cases.{lt-or-ge}
 use Rattle.binary.specs.Gray.{gray}
 use Rattle.binary.specs.Gf2.{mix}
 use Rattle.binary.proofs.XorLaws.{xor-half, xor-swap}
 use Rattle.binary.proofs.MixLaws.{mix-xor}
 use Rattle.sobol.specs.Stepping.{stepped, jumped}
 use Rattle.sobol.proofs.SteppingLaws.{jump-is-stepped}
-use Rattle.sobol_tables.specs.Tables.{Directions, Starts, Table, xored}
+use Rattle.sobol_tables.specs.Tables.{Directions, Table, xored}
 
 gray-xor : (a b : ℕ) → gray (bitXor a b) ≡ bitXor (gray a) (gray b)
 gray-xor a b = ap (bitXor (bitXor a b)) (xor-half a b) ∙ xor-swap a b (a / 2) (b / 2)
@@ -34,20 +31,6 @@ module _ (vs : List ℕ) where
   stepped-split : (k q r : ℕ) → r < 2 ^ k → stepped vs (q * 2 ^ k + r) ≡ bitXor (stepped vs (q * 2 ^ k)) (stepped vs r)
   stepped-split k q r h = ap (stepped vs) (sym (xor-shifted q k r h)) ∙ stepped-xor (q * 2 ^ k) r
 
-  -- ---- the table's entries
-
-  pub starts-none : (t : List ℕ) → Starts vs 0 t
-  unfolding Starts
-  starts-none t r h = absurd (omega arith)
-
-  pub starts-more : (i : ℕ) (t : List ℕ) (x : ℕ) → Starts vs i t → i < length t → x ≡ stepped vs i → Starts vs (i + 1) (set t i x)
-  unfolding Starts
-  starts-more i t x s fits e r h =
-      ⊎-elim (λ q. getD-set-other t i r x 0 (omega arith) ∙ s r q) (λ q. here (omega arith)) (lt-or-ge r i)
-    where
-      here : r ≡ i → getD (set t i x) r 0 ≡ stepped vs r
-      here q = rw q (getD-set-same t i x 0 fits ∙ e)
-
 -- every point fits 32 bits
 pub point-low : {vs : List ℕ} {x : ℕ} → Directions vs → (n : ℕ) → x ≡ stepped vs n → x < 2 ^ 32
 point-low d n e = omega (arith, d .low n)
@@ -59,9 +42,8 @@ module _ {vs t : List ℕ} {size : ℕ} (c : Table vs size t) where
   table-pos = omega (arith, c .power .is, pow-pos (c .power .exponent))
 
   tile : (x k : ℕ) → k + x % size < size → bitXor (stepped vs (x - x % size)) (getD t (k + x % size) 0) ≡ stepped vs (x + k)
-  unfolding Starts
   tile x k h =
-      ap₂ (λ (y z : ℕ). bitXor (stepped vs y) z) start (c .starts (k + x % size) h)
+      ap₂ (λ (y z : ℕ). bitXor (stepped vs y) z) start (c .starts .at (k + x % size) h)
       ∙ sym (stepped-split vs (c .power .exponent) (x / size) (k + x % size) (omega (arith, c .power .is)))
       ∙ ap (stepped vs) whole
     where

@@ -4,6 +4,7 @@ use mathlib.Core.List.{List}
 use Prim.Native.Nat.{ℕ, _+_, _-_, _^_, _<_}
 use lib.Bits.{bitXor}
 use lib.ListN.{length, getD}
+use Rattle.numbers.specs.Listed.{Begins}
 use Rattle.sobol.specs.Stepping.{stepped}
 
 -- the direction numbers of an axis, all of whose points fit 32 bits
@@ -15,14 +16,10 @@ pub record PowerOfTwo (n : ℕ) : Type 0 where
   pub exponent : ℕ
   pub is : n ≡ 2 ^ exponent
 
--- the first entries of t are the first points of the axis with these direction numbers
-unfoldable pub Starts : List ℕ → ℕ → List ℕ → Type 0
-Starts vs size t = (r : ℕ) → r < size → getD t r 0 ≡ stepped vs r
-
--- they are, and their number is a power of two
+-- the first entries of t are the first points of the axis with these direction numbers, and their number is a power of two
 pub record Table (vs : List ℕ) (size : ℕ) (t : List ℕ) : Type 0 where
   pub power : PowerOfTwo size
-  pub starts : Starts vs size t
+  pub starts : Begins (stepped vs) size t
 
 -- what a run from row lo on has: base xor the table's entry, from entry r on
 unfoldable pub xored : ℕ → List ℕ → ℕ → ℕ → ℕ → ℕ

@@ -1,7 +1,9 @@
 // A table of the first points of a Sobol axis, a power of two of them, 32 bits each: every later run of as many is that table and one number.
 ghost use Prim.Native.Nat.{_≤_};
 ghost use lib.ListN.{length};
-ghost use Rattle.sobol_tables.specs.Tables.{Directions, PowerOfTwo, Starts, Table};
+ghost use Rattle.numbers.specs.Listed.{Begins};
+ghost use Rattle.sobol.specs.Stepping.{stepped};
+ghost use Rattle.sobol_tables.specs.Tables.{Directions, PowerOfTwo, Table};
 
 // How many points a table has, for `m` rows: few where there are few rows.
 fn table_size(m: usize) -> usize
@@ -13,7 +15,7 @@ fn table_size(m: usize) -> usize
 // Writes the first `size` points by the direction numbers `v` to the front of `t`, by steps.
 fn first_points(v: &[u64], size: usize, t: &mut [u32])
     requires { ⌜ Directions (now v) × (size ≤ 256) × (256 ≤ length (now t)) ⌝ }
-    ensures { λ r. ⌜ Starts (now (v .entry)) size (now (t .exit)) ⌝ }
+    ensures { λ r. ⌜ Begins (stepped (now (v .entry))) size (now (t .exit)) ⌝ }
 {
     let mut x = 0;
     let mut r = 0;

@@ -5,18 +5,18 @@ use mathlib.Core.List.{List}
 use Prim.Native.Nat.{ℕ, _+_, _-_, _*_, _/_, _%_, _^_, _<_, _≤_}
 use native.Mathlib.Nat.{one-mul, mul-one, mul-comm, add-mul, pow-zero, mul-le-mul-right, lt-of-lt-of-le, div-add-mod'}
 use native.Mathlib.Omega.{arith}
-use lib.ListN.{length, getD, set}
-use lib.Seq.{getD-set-same, getD-set-other}
+use lib.ListN.{getD}
 use Rattle.numbers.specs.Depth.{depth, denominator}
+use Rattle.numbers.specs.Listed.{Begins}
 use Rattle.numbers.proofs.Cases.{lt-or-ge}
 use Rattle.numbers.proofs.DigitLaws.{pow-pos, pow-one-more, pow-up-to}
 use Rattle.numbers.proofs.NumeratorLaws.{numerator-lt}
 use Rattle.numbers.proofs.DepthLaws.{depth-reaches, denominator-lt}
 use Rattle.permutation.specs.Permutes.{Permutes}
-use Rattle.images.specs.Images.{imageIn, Imaged}
+use Rattle.images.specs.Images.{imageIn}
 use Rattle.halton.specs.Axis.{numerator}
 use Rattle.columns.specs.Rows.{Column}
-use Rattle.tables.specs.Tables.{Images, Starts, Table, shifted, tabled}
+use Rattle.tables.specs.Tables.{Images, Table, shifted, tabled}
 use Rattle.tables.proofs.SplitLaws.{numerator-split, numerator-digit, weight-next}
 
 -- an axis whose table of images is l
@@ -42,48 +42,36 @@ module _ {b : ℕ} {l : List ℕ} (a : Images b l) (big : 2 ≤ b) where
         ∙ ap (λ (x : ℕ). x + numerator (imageIn l) b r) (sym part-first)
 
     -- one part more
-    pub part-more : {t new : List ℕ} → Starts (imageIn l) b (d * size) t → 1 ≤ d → Column (shifted (imageIn l d * w) t 0 0) 0 size 1 (d * size) t new → Starts (imageIn l) b ((d + 1) * size) new
-    unfolding Starts shifted
-    part-more {t} {new} s one c r h =
-        ⊎-elim (λ q. c .kept r (λ i u v k. omega arith) ∙ s r q) (λ q. here (r - d * size) (omega arith) (omega (arith, add-mul d 1 size))) (lt-or-ge r (d * size))
+    pub part-more : {t new : List ℕ} → Begins (numerator (imageIn l) b) (d * size) t → 1 ≤ d → Column (shifted (imageIn l d * w) t 0 0) 0 size 1 (d * size) t new → Begins (numerator (imageIn l) b) ((d + 1) * size) new
+    unfolding shifted
+    part-more {t} {new} s one c = record {
+      at = λ r h. ⊎-elim (λ q. c .kept r (λ i u v k. omega arith) ∙ s .at r q) (λ q. here r (r - d * size) (omega arith) (omega (arith, add-mul d 1 size))) (lt-or-ge r (d * size));
+    }
       where
-        here : (i : ℕ) → r ≡ d * size + i → i < size → getD new r 0 ≡ numerator (imageIn l) b r
-        here i k v =
+        here : (r i : ℕ) → r ≡ d * size + i → i < size → getD new r 0 ≡ numerator (imageIn l) b r
+        here r i k v =
             ap (λ (x : ℕ). getD new x 0) {x = r} {y = i * 1 + d * size} (omega arith)
             ∙ c .wrote i (omega arith) v
             ∙ ap (λ (x : ℕ). imageIn l d * w + getD t x 0) {x = i - 0 + 0} {y = i} (omega arith)
-            ∙ ap (λ (x : ℕ). imageIn l d * w + x) (s i (omega (arith, mul-le-mul-right {m = 1} {n = d} size one)))
+            ∙ ap (λ (x : ℕ). imageIn l d * w + x) (s .at i (omega (arith, mul-le-mul-right {m = 1} {n = d} size one)))
             ∙ sym (part-any i v)
             ∙ ap (numerator (imageIn l) b) (sym k)
 
--- one entry more
-pub starts-none : (σ : ℕ → ℕ) (b : ℕ) (t : List ℕ) → Starts σ b 0 t
-unfolding Starts
-starts-none σ b t r h = absurd (omega arith)
-
-pub starts-more : (σ : ℕ → ℕ) (b d : ℕ) (t : List ℕ) (v : ℕ) → Starts σ b d t → d < length t → v ≡ numerator σ b d → Starts σ b (d + 1) (set t d v)
-unfolding Starts
-starts-more σ b d t v s fits e r h =
-    ⊎-elim (λ q. getD-set-other t d r v 0 (omega arith) ∙ s r q) (λ q. here (omega arith)) (lt-or-ge r d)
-  where
-    here : r ≡ d → getD (set t d v) r 0 ≡ numerator σ b r
-    here q = rw q (getD-set-same t d v 0 fits ∙ e)
-
 -- the entries of one digit
-pub table-first : {σ : ℕ → ℕ} {b : ℕ} {t : List ℕ} → Starts σ b b t → Table σ b b t
+pub table-first : {σ : ℕ → ℕ} {b : ℕ} {t : List ℕ} → Begins (numerator σ b) b t → Table σ b b t
 table-first {σ} {b} s = record { exponent = 1; is = sym (pow-one-more b 0 ∙ ap (λ (x : ℕ). x * b) (pow-zero b) ∙ one-mul b); starts = s }
 
 -- all parts
-pub table-more : {σ : ℕ → ℕ} {b size : ℕ} {t new : List ℕ} → Table σ b size t → Starts σ b (b * size) new → Table σ b (size * b) new
+pub table-more : {σ : ℕ → ℕ} {b size : ℕ} {t new : List ℕ} → Table σ b size t → Begins (numerator σ b) (b * size) new → Table σ b (size * b) new
 table-more {σ} {b} {size} {t} {new} a s = record {
   exponent = a .exponent + 1;
   is = ap (λ (x : ℕ). x * b) (a .is) ∙ sym (pow-one-more b (a .exponent));
-  starts = subst (λ (x : ℕ). Starts σ b x new) (mul-comm b size) s;
+  starts = subst (λ (x : ℕ). Begins (numerator σ b) x new) (mul-comm b size) s;
 }
 
 -- the table of one part is the table
-pub table-start : {σ : ℕ → ℕ} {b size : ℕ} {t : List ℕ} → Table σ b size t → Starts σ b (1 * size) t
-table-start {σ} {b} {size} {t} a = subst (λ (x : ℕ). Starts σ b x t) (sym (one-mul size)) (a .starts)
+pub table-start : {σ : ℕ → ℕ} {b size : ℕ} {t : List ℕ} → Table σ b size t → Begins (numerator σ b) (1 * size) t
+table-start {σ} {b} {size} {t} a = subst (λ (x : ℕ). Begins (numerator σ b) x t) (sym (one-mul size)) (a .starts)
 
 pub first-weight : (b : ℕ) → 2 ≤ b → denominator b / b * b ≡ denominator b
 first-weight b big = weight-next b big 0 (denominator b) (ap (λ (x : ℕ). denominator b * x) (pow-zero b) ∙ mul-one (denominator b)) (omega (arith, depth-pos))
@@ -112,9 +100,8 @@ table-pos {b = b} a big = omega (arith, a .is, pow-pos b (a .exponent) (omega ar
 
 module _ {b size : ℕ} {l t : List ℕ} (a : Images b l) (big : 2 ≤ b) (c : Table (imageIn l) b size t) where
   pub tile : (x k : ℕ) → k + x % size < size → numerator (imageIn l) b (x - x % size) + getD t (k + x % size) 0 ≡ numerator (imageIn l) b (x + k)
-  unfolding Starts
   tile x k h =
-      ap₂ (λ (y z : ℕ). numerator (imageIn l) b y + z) start (c .starts (k + x % size) h)
+      ap₂ (λ (y z : ℕ). numerator (imageIn l) b y + z) start (c .starts .at (k + x % size) h)
       ∙ sym (numerator-split (imageIn l) b (a .first) big (c .exponent) (x / size) (k + x % size) (omega (arith, c .is)))
       ∙ ap (numerator (imageIn l) b) whole
     where
@@ -125,13 +112,12 @@ module _ {b size : ℕ} {l t : List ℕ} (a : Images b l) (big : 2 ≤ b) (c : T
       whole = omega (arith, div-add-mod' x size, ap (λ (y : ℕ). x / size * y) (c .is))
 
   pub entry-below : b ≤ 256 → (x : ℕ) → x < size → getD t x 0 < 2 ^ 40
-  unfolding Starts
-  entry-below u x h = rw (c .starts x h) (point-below a big u x)
+  entry-below u x h = rw (c .starts .at x h) (point-below a big u x)
 
   pub tile-at : (n lo k : ℕ) → lo ≤ k → k - lo + (n + lo) % size < size → shifted (numerator (imageIn l) b (n + lo - (n + lo) % size)) t lo ((n + lo) % size) k ≡ tabled l b n k
   unfolding shifted tabled
   tile-at n lo k h q = tile (n + lo) (k - lo) q ∙ ap (numerator (imageIn l) b) {x = n + lo + (k - lo)} {y = n + k} (omega arith)
 
 -- the axis by its images
-pub images-of : {σ : ℕ → ℕ} {b : ℕ} {l : List ℕ} → Imaged σ b l → Permutes b σ → 2 ≤ b → Images b l
+pub images-of : {σ : ℕ → ℕ} {b : ℕ} {l : List ℕ} → Begins σ b l → Permutes b σ → 2 ≤ b → Images b l
 images-of a p big = record { below = λ d h. rw (a .at d h) (p .below d h); first = a .at 0 (omega arith) ∙ p .zero-first }

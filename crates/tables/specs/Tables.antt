@@ -3,6 +3,7 @@ use mathlib.Core.Path.{_≡_}
 use mathlib.Core.List.{List}
 use Prim.Native.Nat.{ℕ, _+_, _-_, _^_, _<_}
 use lib.ListN.{getD}
+use Rattle.numbers.specs.Listed.{Begins}
 use Rattle.images.specs.Images.{imageIn}
 use Rattle.halton.specs.Axis.{numerator}
 
@@ -11,15 +12,11 @@ pub record Images (b : ℕ) (l : List ℕ) : Type 0 where
   pub below : (d : ℕ) → d < b → imageIn l d < b
   pub first : imageIn l 0 ≡ 0
 
--- the first entries of t are the first points of the axis
-unfoldable pub Starts : (ℕ → ℕ) → ℕ → ℕ → List ℕ → Type 0
-Starts σ b size t = (r : ℕ) → r < size → getD t r 0 ≡ numerator σ b r
-
--- they are, and their number is a power of b
+-- the first entries of t are the first points of the axis, and their number is a power of b
 pub record Table (σ : ℕ → ℕ) (b size : ℕ) (t : List ℕ) : Type 0 where
   pub exponent : ℕ
   pub is : size ≡ b ^ exponent
-  pub starts : Starts σ b size t
+  pub starts : Begins (numerator σ b) size t
 
 -- what a run from row lo on writes: base and the table's entry, from entry r on
 unfoldable pub shifted : ℕ → List ℕ → ℕ → ℕ → ℕ → ℕ
