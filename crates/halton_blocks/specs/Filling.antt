@@ -5,7 +5,7 @@ use Rattle.numbers.specs.Listed.{Begins}
 use Rattle.permutation.specs.Families.{imageOf}
 use Rattle.images.specs.Images.{imageIn}
 use Rattle.halton.specs.Axis.{numerator}
-use Rattle.tables.specs.Tables.{Table}
+use Rattle.columns.specs.Tiles.{Table}
 
 -- the numerator i places after index n on an axis of base b
 unfoldable pub haltonFrom : ℕ → ℕ → ℕ → ℕ → ℕ
@@ -15,4 +15,4 @@ haltonFrom family b n i = numerator (imageOf family b) b (n + i)
 pub record Made (family b size : ℕ) (l t : List ℕ) : Type 0 where
   pub few : size ≤ 256
   pub images : Begins (imageOf family b) b l
-  pub table : Table (imageIn l) b size t
+  pub table : Table (numerator (imageIn l) b) b size t

@@ -3,15 +3,17 @@
 ghost use Prim.Native.Nat.{ℕ, _+_, _-_, _*_, _^_, _<_, _≤_};
 ghost use lib.ListN.{length, getD};
 ghost use Rattle.images.specs.Images.{imageIn};
+ghost use Rattle.halton.specs.Axis.{numerator};
 ghost use Rattle.columns.specs.Rows.{Column};
-ghost use Rattle.tables.specs.Tables.{Images, Table, shifted, tabled};
+ghost use Rattle.columns.specs.Tiles.{Table, runOf};
+ghost use Rattle.tables.specs.Tables.{Images, tabled};
 ghost use Rattle.halton_blocks.specs.Filling.{haltonFrom, Made};
 
 // Writes column `j` of the rows `lo` to `hi`: `base` and the table's entries, from entry `r` on.
 fn run(base: u64, t: &[u64], r: usize, lo: usize, hi: usize, s: usize, j: usize, out: &mut [u64])
     requires { ⌜ (base < 2 ^ 40) × (lo ≤ hi) × (hi - lo + r ≤ length (now t)) × (j < s) × (hi * s ≤ length (now out)) ⌝ }
     requires { ⌜ ((x : ℕ) → x < hi - lo + r → getD (now t) x 0 < 2 ^ 40) ⌝ }
-    ensures { λ v. ⌜ Column (shifted base (now (t .entry)) lo r) lo hi s j (now (out .entry)) (now (out .exit)) ⌝ }
+    ensures { λ v. ⌜ Column (runOf _+_ base (now (t .entry)) lo r) lo hi s j (now (out .entry)) (now (out .exit)) ⌝ }
 {
     let mut i = lo;
     while i < hi {
@@ -35,7 +37,7 @@ pub fn fill_tiles(
     out: &mut [u64],
 )
     requires { ⌜ (2 ≤ b) × (b ≤ 256) × (256 ≤ length (now l)) × Images b (now l) ⌝ }
-    requires { ⌜ (size ≤ 256) × (256 ≤ length (now t)) × Table (imageIn (now l)) b size (now t) ⌝ }
+    requires { ⌜ (size ≤ 256) × (256 ≤ length (now t)) × Table (numerator (imageIn (now l)) b) b size (now t) ⌝ }
     requires { ⌜ (n + hi ≤ 2 ^ 32) × (lo ≤ hi) × (j < s) × (hi * s ≤ length (now out)) ⌝ }
     ensures { λ v. ⌜ Column (tabled (now (l .entry)) b n) lo hi s j (now (out .entry)) (now (out .exit)) ⌝ }
 {

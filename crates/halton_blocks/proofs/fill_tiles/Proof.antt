@@ -1,13 +1,13 @@
 -- `halton_blocks::fill_tiles` meets its contract: the rows up to i are written, and each part is a run of the table. Assumes nothing.
-use mathlib.Core.Path.{ap, _∙_}
-use Prim.Native.Nat.{ℕ, _-_, _≤_}
+use Prim.Native.Nat.{_-_, _≤_}
+use native.Mathlib.Nat.{mul-le-mul-right}
 use native.Mathlib.Omega.{arith}
 use denote.Ref.{now}
-use Rattle.tables.specs.Tables.{shifted, tabled}
 use Rattle.columns.specs.Rows.{Column}
-use Rattle.tables.proofs.TableLaws.{tile-at, entry-below, point-below, table-pos}
-use native.Mathlib.Nat.{mul-le-mul-right}
 use Rattle.columns.proofs.ColumnLaws.{column-none, column-to, column-join, column-as}
+use Rattle.columns.proofs.TileLaws.{table-pos}
+use Rattle.tables.specs.Tables.{tabled}
+use Rattle.tables.proofs.TableLaws.{tabled-run, entry-below, point-below}
 use Rattle.halton_blocks.proofs.fill_tiles.Statement.{statement}
 use Rattle.halton_blocks.proofs.fill_tiles.Tie as tie
 
@@ -58,12 +58,11 @@ loop-again c =
     let s = c .before .before .before .before .before .before .before .before .before .before .before in
     let a = s .args in
     let l = c .before .before .before .before .before .before .before .loop in
-    let e = c .before .before .before .before .before .tile-at .ensures in
-    let r = c .before .before .before .before .before .tile-at .result .place in (
+    let e = c .before .before .before .before .before .tile-at .ensures in (
       omega (arith, e .further),
       e .in-rows,
       column-join (l .inv .2)
-          (column-as (c .before .before .run .ensures) (tabled (now (a .l)) (a .b) (a .n)) (λ k h q. ap (λ (y : ℕ). shifted y (now (a .t)) (l .i) r k) (c .before .before .before .before .jump .ensures) ∙ rw (e .remainder) (tile-at (s .pre .0 .3) (omega arith) (s .pre .1 .0 .2) (a .n) (l .i) k h (omega (arith, e)))))
+          (column-as (c .before .before .run .ensures) (tabled (now (a .l)) (a .b) (a .n)) (tabled-run (s .pre .0 .3) (omega arith) (s .pre .1 .0 .2) (a .n) e (c .before .before .before .before .jump .ensures)))
           (omega arith) (omega (arith, e .further)) (omega arith),
     )
 

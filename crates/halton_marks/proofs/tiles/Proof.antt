@@ -1,10 +1,10 @@
 -- `halton_marks::tiles` meets its contract: the flags up to i are tested, and each part is a run of the table. Assumes nothing.
-use mathlib.Core.Path.{ap, _∙_}
-use Prim.Native.Nat.{ℕ, _-_, _≤_}
+use Prim.Native.Nat.{_-_, _≤_}
 use native.Mathlib.Omega.{arith}
 use denote.Ref.{now}
-use Rattle.tables.specs.Tables.{shifted, tabled}
-use Rattle.tables.proofs.TableLaws.{tile-at, table-pos}
+use Rattle.columns.proofs.TileLaws.{table-pos}
+use Rattle.tables.specs.Tables.{tabled}
+use Rattle.tables.proofs.TableLaws.{tabled-run}
 use Rattle.marks.specs.Marking.{Marked}
 use Rattle.marks.proofs.MarkLaws.{marked-none, marked-to, marked-as, marked-join}
 use Rattle.halton_marks.proofs.tiles.Statement.{statement}
@@ -47,11 +47,10 @@ loop-again c =
     let s = c .before .before .before .before .before .before .before .before .before .before .before in
     let a = s .args in
     let l = c .before .before .before .before .before .before .before .loop in
-    let e = c .before .before .before .before .before .tile-at .ensures in
-    let r = c .before .before .before .before .before .tile-at .result .place in (
+    let e = c .before .before .before .before .before .tile-at .ensures in (
       e .in-rows,
       marked-join (l .inv .1)
-          (marked-as (c .before .before .run .ensures) (tabled (now (a .images)) (a .b) (a .n)) (λ k h q. ap (λ (y : ℕ). shifted y (now (a .t)) (l .i) r k) (c .before .before .before .before .jump .ensures) ∙ rw (e .remainder) (tile-at (s .pre .0 .3) (omega arith) (s .pre .1 .0 .2) (a .n) (l .i) k h (omega (arith, e)))))
+          (marked-as (c .before .before .run .ensures) (tabled (now (a .images)) (a .b) (a .n)) (tabled-run (s .pre .0 .3) (omega arith) (s .pre .1 .0 .2) (a .n) e (c .before .before .before .before .jump .ensures)))
           (omega arith) (omega (arith, e .further)),
     )
 

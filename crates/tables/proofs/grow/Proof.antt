@@ -27,7 +27,7 @@ small c =
     let s = c .before .before .before .before in
     let a = s .args in
     let t = s .pre .1 .3 in
-    rw (part-first (s .pre .0 .3) (omega arith) (t .exponent) (a .size) (a .w) (c .before .loop .d) (t .is) (s .pre .1 .2) (omega arith)) (point-below (s .pre .0 .3) (omega arith) (omega arith) _)
+    rw (part-first (s .pre .0 .3) (omega arith) (t .power .exponent) (a .size) (a .w) (c .before .loop .d) (t .power .is) (s .pre .1 .2) (omega arith)) (point-below (s .pre .0 .3) (omega arith) (omega arith) _)
 
 -- the next part lies behind the first and within the table
 place : (c : tie.In-loop Inv-loop μ-loop) →
@@ -77,7 +77,7 @@ loop-again c =
     let e = c .before .before .spread .ensures in (
       omega arith,
       omega arith,
-      part-more (s .pre .0 .3) (omega arith) (t .exponent) (a .size) (a .w) (l .d) (t .is) (s .pre .1 .2) (omega arith) (l .inv .2) (omega arith) e,
+      part-more (s .pre .0 .3) (omega arith) (t .power .exponent) (a .size) (a .w) (l .d) (t .power .is) (s .pre .1 .2) (omega arith) (l .inv .2) (omega arith) e,
       e .same-length ∙ l .inv .3,
     )
 
