@@ -3,8 +3,8 @@ use mathlib.Core.List.{List}
 use Prim.Native.Nat.{ℕ, _+_, _≤_}
 use Rattle.numbers.specs.Listed.{Begins}
 use Rattle.permutation.specs.Families.{imageOf}
-use Rattle.images.specs.Images.{imageIn}
 use Rattle.halton.specs.Axis.{numerator}
+use Rattle.halton.specs.Images.{imageIn}
 use Rattle.columns.specs.Tiles.{Table}
 
 -- the numerator i places after index n on an axis of base b

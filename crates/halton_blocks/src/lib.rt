@@ -2,11 +2,11 @@
 // table and one number.
 ghost use Prim.Native.Nat.{ℕ, _+_, _-_, _*_, _^_, _<_, _≤_};
 ghost use lib.ListN.{length, getD};
-ghost use Rattle.images.specs.Images.{imageIn};
 ghost use Rattle.halton.specs.Axis.{numerator};
+ghost use Rattle.halton.specs.Images.{imageIn, DigitMap};
 ghost use Rattle.columns.specs.Rows.{Column};
 ghost use Rattle.columns.specs.Tiles.{Table, runOf};
-ghost use Rattle.tables.specs.Tables.{Images, tabled};
+ghost use Rattle.tables.specs.Tables.{tabled};
 ghost use Rattle.halton_blocks.specs.Filling.{haltonFrom, Made};
 
 // Writes column `j` of the rows `lo` to `hi`: `base` and the table's entries, from entry `r` on.
@@ -22,8 +22,8 @@ fn run(base: u64, t: &[u64], r: usize, lo: usize, hi: usize, s: usize, j: usize,
     }
 }
 
-// Writes column `j` of the rows `lo` to `hi`, row 0 being index `n`, a table's length at a time: `l` are the images of base `b`, and `t` its
-// first `size` points.
+// Writes column `j` of the rows `lo` to `hi`, row 0 being index `n`, a table's length at a time: `l` are the images of base `b`, all of them, so
+// that no family is asked, and `t` its first `size` points.
 pub fn fill_tiles(
     b: u64,
     l: &[u8],
@@ -36,7 +36,7 @@ pub fn fill_tiles(
     j: usize,
     out: &mut [u64],
 )
-    requires { ⌜ (2 ≤ b) × (b ≤ 256) × (256 ≤ length (now l)) × Images b (now l) ⌝ }
+    requires { ⌜ (2 ≤ b) × (b ≤ 256) × (256 ≤ length (now l)) × DigitMap b (imageIn (now l)) ⌝ }
     requires { ⌜ (size ≤ 256) × (256 ≤ length (now t)) × Table (numerator (imageIn (now l)) b) b size (now t) ⌝ }
     requires { ⌜ (n + hi ≤ 2 ^ 32) × (lo ≤ hi) × (j < s) × (hi * s ≤ length (now out)) ⌝ }
     ensures { λ v. ⌜ Column (tabled (now (l .entry)) b n) lo hi s j (now (out .entry)) (now (out .exit)) ⌝ }
@@ -46,8 +46,8 @@ pub fn fill_tiles(
         let part = columns::tile_at(n + (i as u64), size, i, hi);
         let r = part.place;
         let end = part.end;
-        let base = tables::jump(b, l, n + (i as u64) - (r as u64));
-        run(base, t, r, i, end, s, j, out);
+        let first = halton::jump(0, b, l, n + (i as u64) - (r as u64));
+        run(first.numerator, t, r, i, end, s, j, out);
         i = end;
     }
 }
@@ -93,7 +93,7 @@ fn table_column(
     fill_tiles(b, &l, size, &t, n, lo, hi, s, j, out);
 }
 
-// The same by a jump for each row.
+// Writes column `j` of the rows `lo` to `hi`: the numerators in base `b`, row 0 being index `n`, by a jump for each row.
 fn jump_column(
     family: u64,
     b: u64,
@@ -109,13 +109,13 @@ fn jump_column(
 {
     let mut i = lo;
     while i < hi {
-        let r = halton::jump(family, b, n + (i as u64));
+        let r = halton::jump(family, b, &[], n + (i as u64));
         out[i * s + j] = r.numerator;
         i += 1;
     }
 }
 
-// The same: a table is worth its making from 8 rows on.
+// Writes column `j` of the rows `lo` to `hi`: the numerators in base `b`, row 0 being index `n`. From 8 rows on a table is worth its making.
 pub fn halton_column(
     family: u64,
     b: u64,

@@ -14,8 +14,8 @@ use Rattle.numbers.proofs.Cases.{lt-or-ge, eq-or-ne}
 use Rattle.numbers.proofs.DepthLaws.{denominator-lt}
 use Rattle.numbers.proofs.ListedLaws.{padded-length, padded-at, zeros-at, listed-same}
 use Rattle.permutation.specs.Families.{imageOf}
-use Rattle.permutation.proofs.FamilyLaws.{image-permutes}
 use Rattle.halton.specs.Axis.{numerator}
+use Rattle.halton.proofs.ImageLaws.{image-digits}
 use Rattle.halton.proofs.AxisLaws.{numerator-below}
 use Rattle.sobol.specs.Stepping.{stepped}
 use Rattle.sobol.proofs.DirectionLaws.{directions-length}
@@ -129,7 +129,7 @@ module _ {family axes : ℕ} {bases vs : List ℕ} (a : Arrays family axes bases
   numerator-at-lt n =
       ⊎-elim
       (λ e. rw (← numerator-by-part family bases vs n i e, ← denominator-by-two family bases i e) (stepped-lt 32 _ part-low n))
-      (λ f. rw (← numerator-by-base family bases vs n i f, ← denominator-by-base family bases i f) (numerator-below (image-permutes family (getD bases i 0) (a .base-low i h f)) (omega (arith, a .base-low i h f)) n))
+      (λ f. rw (← numerator-by-base family bases vs n i f, ← denominator-by-base family bases i f) (numerator-below (image-digits family (getD bases i 0) (a .base-low i h f)) (omega (arith, a .base-low i h f)) n))
       (eq-or-ne family 2)
     where
       part-low : (j : ℕ) → getD (take (32 * i + 32 - 32 * i) (drop (32 * i) vs)) j 0 < 2 ^ 32

@@ -22,7 +22,7 @@ pub fn numerator(
         let to = from + 32;
         return sobol::jump(&directions[from..to], n);
     }
-    let x = halton::jump(family, bases[i], n);
+    let x = halton::jump(family, bases[i], &[], n);
     x.numerator
 }
 

@@ -1,36 +1,16 @@
-// Tables over one Halton axis: the images of its digits give the point of any index, and its first points.
+// Tables over one Halton axis: the images of its digits give its first points.
 ghost use mathlib.Core.Path.{_≡_};
 ghost use Prim.Native.Nat.{ℕ, _+_, _*_, _^_, _<_, _≤_};
 ghost use lib.ListN.{length, getD};
 ghost use Rattle.numbers.specs.Depth.{denominator};
-ghost use Rattle.images.specs.Images.{imageIn};
 ghost use Rattle.halton.specs.Axis.{numerator};
+ghost use Rattle.halton.specs.Images.{imageIn, DigitMap};
 ghost use Rattle.columns.specs.Rows.{Column};
 ghost use Rattle.columns.specs.Tiles.{Table, runOf};
-ghost use Rattle.tables.specs.Tables.{Images};
-
-// The numerator of index `n` over the images `l`, by Horner's rule over the digits of `n`, lowest first. It divides by `b` once: where r × b is
-// below 2^32, r / b is r × (2^32 / b + 1) / 2^32.
-pub fn jump(b: u64, l: &[u8], n: u64) -> u64
-    requires { ⌜ (2 ≤ b) × (b ≤ 256) × (n < 2 ^ 32) × (256 ≤ length (now l)) × Images b (now l) ⌝ }
-    ensures { λ r. ⌜ r ≡ numerator (imageIn (now (l .entry))) b n ⌝ }
-{
-    let m = 4294967296 / b + 1;
-    let mut r = numbers::quotient(n, b, m);
-    let mut x = l[(n - r * b) as usize] as u64;
-    let mut p = b;
-    while p < 4294967296 {
-        let q = r * m / 4294967296;
-        x = x * b + (l[(r - q * b) as usize] as u64);
-        r = q;
-        p = p * b;
-    }
-    x
-}
 
 // The table of the first `b` points: the image of each digit, times the weight `w` of the last place.
 fn first_points(b: u64, l: &[u8], w: u64, t: &mut [u64])
-    requires { ⌜ (2 ≤ b) × (b ≤ 256) × (256 ≤ length (now l)) × Images b (now l) × (256 ≤ length (now t)) × (w * b ≡ denominator b) ⌝ }
+    requires { ⌜ (2 ≤ b) × (b ≤ 256) × (256 ≤ length (now l)) × DigitMap b (imageIn (now l)) × (256 ≤ length (now t)) × (w * b ≡ denominator b) ⌝ }
     ensures { λ r. ⌜ Table (numerator (imageIn (now (l .entry))) b) b b (now (t .exit)) × (length (now (t .exit)) ≡ length (now (t .entry))) ⌝ }
 {
     let end = b as usize;
@@ -55,7 +35,7 @@ fn spread(a: u64, at: usize, size: usize, t: &mut [u64])
 
 // Makes the table of the first `size` points one of `size` times `b`. `w` is the weight of the next digit.
 fn grow(b: u64, l: &[u8], w: u64, size: usize, t: &mut [u64])
-    requires { ⌜ (2 ≤ b) × (b ≤ 256) × (256 ≤ length (now l)) × Images b (now l) ⌝ }
+    requires { ⌜ (2 ≤ b) × (b ≤ 256) × (256 ≤ length (now l)) × DigitMap b (imageIn (now l)) ⌝ }
     requires { ⌜ (size * b ≤ 256) × (256 ≤ length (now t)) × (w * b * size ≡ denominator b) × Table (numerator (imageIn (now l)) b) b size (now t) ⌝ }
     ensures { λ r. ⌜ Table (numerator (imageIn (now (l .entry))) b) b (size * b) (now (t .exit)) × (length (now (t .exit)) ≡ length (now (t .entry))) ⌝ }
 {
@@ -68,7 +48,7 @@ fn grow(b: u64, l: &[u8], w: u64, size: usize, t: &mut [u64])
 
 // The table of the first points of the axis: as many as the greatest power of `b` up to `limit`.
 pub fn table(b: u64, l: &[u8], limit: usize, t: &mut [u64]) -> usize
-    requires { ⌜ (2 ≤ b) × (b ≤ 256) × (256 ≤ length (now l)) × Images b (now l) × (256 ≤ length (now t)) × (b ≤ limit) × (limit ≤ 256) ⌝ }
+    requires { ⌜ (2 ≤ b) × (b ≤ 256) × (256 ≤ length (now l)) × DigitMap b (imageIn (now l)) × (256 ≤ length (now t)) × (b ≤ limit) × (limit ≤ 256) ⌝ }
     ensures { λ r. ⌜ (r ≤ 256) × Table (numerator (imageIn (now (l .entry))) b) b r (now (t .exit)) ⌝ }
 {
     let mut w = numbers::denominator(b) / b;

@@ -1,8 +1,12 @@
 -- `halton_blocks::fill_tiles` meets its contract: the rows up to i are written, and each part is a run of the table. Assumes nothing.
-use Prim.Native.Nat.{_-_, _≤_}
+use mathlib.Core.Path.{_≡_, _∙_}
+use Prim.Native.Nat.{_+_, _-_, _≤_}
 use native.Mathlib.Nat.{mul-le-mul-right}
 use native.Mathlib.Omega.{arith}
 use denote.Ref.{now}
+use Rattle.halton.specs.Axis.{numerator}
+use Rattle.halton.specs.Images.{imageIn}
+use Rattle.halton.proofs.ImageLaws.{numerator-by-table}
 use Rattle.columns.specs.Rows.{Column}
 use Rattle.columns.proofs.ColumnLaws.{column-none, column-to, column-join, column-as}
 use Rattle.columns.proofs.TileLaws.{table-pos}
@@ -33,7 +37,15 @@ sub-jump : tie.Need-sub-jump Inv-loop μ-loop
 sub-jump c = omega (arith, c .tile-at .ensures .back)
 
 jump-requires : tie.Need-jump-requires Inv-loop μ-loop
-jump-requires c κs = (omega arith, omega arith, omega arith, omega arith, c .before .before .before .before .before .before .pre .0 .3)
+jump-requires c κs = (omega arith, omega arith, omega arith, c .before .before .before .before .before .before .pre .0 .3)
+
+-- the part's one number, by the table of images
+number : (c : tie.After-jump Inv-loop μ-loop) →
+    let a = c .before .before .before .before .before .before .before .args in
+    c .jump .result .numerator ≡ numerator (imageIn (now (a .l))) (a .b) (a .n + c .before .before .before .loop .i - c .before .tile-at .result .place)
+number c =
+    let a = c .before .before .before .before .before .before .before .args in
+    c .jump .ensures ∙ numerator-by-table 0 (a .b) (now (a .l)) (omega arith) _
 
 run-requires : tie.Need-run-requires Inv-loop μ-loop
 run-requires c κs =
@@ -41,7 +53,7 @@ run-requires c κs =
     let a = s .args in
     let e = c .before .before .tile-at .ensures in (
       (
-        rw (c .before .jump .ensures) (point-below (s .pre .0 .3) (omega arith) (omega arith) _),
+        rw (number (c .before)) (point-below (s .pre .0 .3) (omega arith) (omega arith) _),
         omega (arith, e .further),
         omega (arith, e .in-table),
         omega arith,
@@ -62,7 +74,7 @@ loop-again c =
       omega (arith, e .further),
       e .in-rows,
       column-join (l .inv .2)
-          (column-as (c .before .before .run .ensures) (tabled (now (a .l)) (a .b) (a .n)) (tabled-run (s .pre .0 .3) (omega arith) (s .pre .1 .0 .2) (a .n) e (c .before .before .before .before .jump .ensures)))
+          (column-as (c .before .before .run .ensures) (tabled (now (a .l)) (a .b) (a .n)) (tabled-run (now (a .l)) (s .pre .0 .3) (omega arith) (s .pre .1 .0 .2) (a .n) e (number (c .before .before .before .before))))
           (omega arith) (omega (arith, e .further)) (omega arith),
     )
 

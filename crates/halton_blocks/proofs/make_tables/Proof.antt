@@ -1,8 +1,7 @@
 -- `halton_blocks::make_tables` meets its contract. Assumes nothing.
 use native.Mathlib.Omega.{arith}
 use borrow.Author.Needs.{needs}
-use Rattle.permutation.proofs.FamilyLaws.{image-permutes}
-use Rattle.tables.proofs.TableLaws.{images-of}
+use Rattle.halton.proofs.ImageLaws.{image-digits, table-digits}
 use Rattle.halton_blocks.proofs.make_tables.Statement.{statement}
 use Rattle.halton_blocks.proofs.make_tables.Tie as tie
 
@@ -16,7 +15,7 @@ table-requires : tie.Need-table-requires
 table-requires c κs =
     let a = c .before .before .before .before .before .before .before .before .before .args in
     let e = c .before .before .table-limit .ensures in
-    (search needs, search needs, search needs, images-of (c .before .before .before .before .before .images .ensures) (image-permutes (a .family) (a .b) (omega arith)) (omega arith), search needs, e .0, e .1)
+    (search needs, search needs, search needs, table-digits (c .before .before .before .before .before .images .ensures) (image-digits (a .family) (a .b) (omega arith)) (omega arith), search needs, e .0, e .1)
 
 same-length : tie.Need-same-length
 same-length c = search needs

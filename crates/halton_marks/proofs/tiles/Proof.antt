@@ -1,7 +1,11 @@
 -- `halton_marks::tiles` meets its contract: the flags up to i are tested, and each part is a run of the table. Assumes nothing.
-use Prim.Native.Nat.{_-_, _≤_}
+use mathlib.Core.Path.{_≡_, _∙_}
+use Prim.Native.Nat.{_+_, _-_, _≤_}
 use native.Mathlib.Omega.{arith}
 use denote.Ref.{now}
+use Rattle.halton.specs.Axis.{numerator}
+use Rattle.halton.specs.Images.{imageIn}
+use Rattle.halton.proofs.ImageLaws.{numerator-by-table}
 use Rattle.columns.proofs.TileLaws.{table-pos}
 use Rattle.tables.specs.Tables.{tabled}
 use Rattle.tables.proofs.TableLaws.{tabled-run}
@@ -32,7 +36,15 @@ sub-jump : tie.Need-sub-jump Inv-loop μ-loop
 sub-jump c = omega (arith, c .tile-at .ensures .back)
 
 jump-requires : tie.Need-jump-requires Inv-loop μ-loop
-jump-requires c κs = (omega arith, omega arith, omega arith, omega arith, c .before .before .before .before .before .before .pre .0 .3)
+jump-requires c κs = (omega arith, omega arith, omega arith, c .before .before .before .before .before .before .pre .0 .3)
+
+-- the part's one number, by the table of images
+number : (c : tie.After-jump Inv-loop μ-loop) →
+    let a = c .before .before .before .before .before .before .before .args in
+    c .jump .result .numerator ≡ numerator (imageIn (now (a .images))) (a .b) (a .n + c .before .before .before .loop .i - c .before .tile-at .result .place)
+number c =
+    let a = c .before .before .before .before .before .before .before .args in
+    c .jump .ensures ∙ numerator-by-table 0 (a .b) (now (a .images)) (omega arith) _
 
 run-requires : tie.Need-run-requires Inv-loop μ-loop
 run-requires c κs =
@@ -50,7 +62,7 @@ loop-again c =
     let e = c .before .before .before .before .before .tile-at .ensures in (
       e .in-rows,
       marked-join (l .inv .1)
-          (marked-as (c .before .before .run .ensures) (tabled (now (a .images)) (a .b) (a .n)) (tabled-run (s .pre .0 .3) (omega arith) (s .pre .1 .0 .2) (a .n) e (c .before .before .before .before .jump .ensures)))
+          (marked-as (c .before .before .run .ensures) (tabled (now (a .images)) (a .b) (a .n)) (tabled-run (now (a .images)) (s .pre .0 .3) (omega arith) (s .pre .1 .0 .2) (a .n) e (number (c .before .before .before .before))))
           (omega arith) (omega (arith, e .further)),
     )
 

@@ -6,8 +6,8 @@ use denote.Ref.{now}
 use lib.ListN.{length, length-set}
 use Rattle.numbers.specs.Listed.{Begins}
 use Rattle.numbers.proofs.ListedLaws.{begins-none, begins-more, begins-less}
-use Rattle.images.specs.Images.{imageIn}
 use Rattle.halton.specs.Axis.{numerator}
+use Rattle.halton.specs.Images.{imageIn}
 use Rattle.tables.proofs.TableLaws.{point-below, first-digit, table-first}
 use Rattle.tables.proofs.first_points.Statement.{statement}
 use Rattle.tables.proofs.first_points.Tie as tie

@@ -6,8 +6,8 @@ use denote.Ref.{now}
 use lib.ListN.{length}
 use Rattle.numbers.specs.Listed.{Begins}
 use Rattle.numbers.proofs.ListedLaws.{begins-less}
-use Rattle.images.specs.Images.{imageIn}
 use Rattle.halton.specs.Axis.{numerator}
+use Rattle.halton.specs.Images.{imageIn}
 use Rattle.tables.proofs.TableLaws.{point-below, part-first, part-more, table-more, table-start}
 use native.Mathlib.Nat.{mul-le-mul-right, mul-comm, add-mul}
 use Rattle.tables.proofs.grow.Statement.{statement}

@@ -4,8 +4,8 @@ use Prim.Native.Nat.{ℕ, _-_, _*_, _/_, _≤_}
 use native.Mathlib.Omega.{arith}
 use lib.ListN.{length}
 use Rattle.numbers.specs.Depth.{denominator}
-use Rattle.images.specs.Images.{imageIn}
 use Rattle.halton.specs.Axis.{numerator}
+use Rattle.halton.specs.Images.{imageIn}
 use Rattle.columns.specs.Tiles.{Table}
 use Rattle.columns.proofs.TileLaws.{table-pos}
 use Rattle.tables.proofs.TableLaws.{first-weight, table-weight}

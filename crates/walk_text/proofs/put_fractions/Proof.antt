@@ -6,7 +6,7 @@ use native.Mathlib.Omega.{arith}
 use Rattle.text.specs.Put.{Put}
 use Rattle.walk_text.specs.Parts.{fractionsAt}
 use Rattle.walk_text.proofs.PutLaws.{no-fraction, next-fraction}
-use Rattle.walk_text.proofs.ArrayLaws.{numerator-at-lt, denominator-at-lt}
+use Rattle.points.proofs.ArrayLaws.{numerator-at-lt, denominator-at-lt}
 use Rattle.walk_text.proofs.put_fractions.Statement.{statement}
 use Rattle.walk_text.proofs.put_fractions.Tie as tie
 
