@@ -2,12 +2,10 @@
 // table and one number.
 ghost use Prim.Native.Nat.{ℕ, _+_, _-_, _*_, _^_, _<_, _≤_};
 ghost use lib.ListN.{length, getD};
-ghost use Rattle.halton.specs.Axis.{numerator};
-ghost use Rattle.halton.specs.Images.{imageIn, DigitMap};
 ghost use Rattle.columns.specs.Rows.{Column};
-ghost use Rattle.columns.specs.Tiles.{Table, runOf};
+ghost use Rattle.columns.specs.Tiles.{runOf};
 ghost use Rattle.tables.specs.Tables.{tabled};
-ghost use Rattle.halton_blocks.specs.Filling.{haltonFrom, Made};
+ghost use Rattle.halton_blocks.specs.Filling.{haltonFrom, Ready, Made};
 
 // Writes column `j` of the rows `lo` to `hi`: `base` and the table's entries, from entry `r` on.
 fn run(base: u64, t: &[u64], r: usize, lo: usize, hi: usize, s: usize, j: usize, out: &mut [u64])
@@ -36,8 +34,7 @@ pub fn fill_tiles(
     j: usize,
     out: &mut [u64],
 )
-    requires { ⌜ (2 ≤ b) × (b ≤ 256) × (256 ≤ length (now l)) × DigitMap b (imageIn (now l)) ⌝ }
-    requires { ⌜ (size ≤ 256) × (256 ≤ length (now t)) × Table (numerator (imageIn (now l)) b) b size (now t) ⌝ }
+    requires { ⌜ Ready b size (now l) (now t) × (256 ≤ length (now l)) × (256 ≤ length (now t)) ⌝ }
     requires { ⌜ (n + hi ≤ 2 ^ 32) × (lo ≤ hi) × (j < s) × (hi * s ≤ length (now out)) ⌝ }
     ensures { λ v. ⌜ Column (tabled (now (l .entry)) b n) lo hi s j (now (out .entry)) (now (out .exit)) ⌝ }
 {

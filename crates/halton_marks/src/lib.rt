@@ -3,11 +3,9 @@
 ghost use mathlib.Core.Path.{_≡_};
 ghost use Prim.Native.Nat.{_+_, _-_, _^_, _<_, _≤_};
 ghost use lib.ListN.{length};
-ghost use Rattle.halton.specs.Axis.{numerator};
-ghost use Rattle.halton.specs.Images.{imageIn, DigitMap};
-ghost use Rattle.columns.specs.Tiles.{Table, runOf};
+ghost use Rattle.columns.specs.Tiles.{runOf};
 ghost use Rattle.tables.specs.Tables.{tabled};
-ghost use Rattle.halton_blocks.specs.Filling.{haltonFrom};
+ghost use Rattle.halton_blocks.specs.Filling.{haltonFrom, Ready};
 ghost use Rattle.marks.specs.Marking.{Marked};
 
 // What `base` leaves of `limit`: 0 where it is no less.
@@ -33,8 +31,7 @@ fn run(base: u64, t: &[u64], r: usize, lo: usize, hi: usize, limit: u64, l: &mut
 // Tests the first `m` points from index `n` on, a table's length at a time: `images` are those of base `b`, all of them, so that no family is
 // asked, and `t` its first `size` points.
 fn tiles(b: u64, images: &[u8], size: usize, t: &[u64], n: u64, m: usize, limit: u64, l: &mut [u8])
-    requires { ⌜ (2 ≤ b) × (b ≤ 256) × (256 ≤ length (now images)) × DigitMap b (imageIn (now images)) ⌝ }
-    requires { ⌜ (size ≤ 256) × (256 ≤ length (now t)) × Table (numerator (imageIn (now images)) b) b size (now t) ⌝ }
+    requires { ⌜ Ready b size (now images) (now t) × (256 ≤ length (now images)) × (256 ≤ length (now t)) ⌝ }
     requires { ⌜ (n + m ≤ 2 ^ 32) × (m ≤ length (now l)) ⌝ }
     ensures { λ v. ⌜ Marked (tabled (now (images .entry)) b n) limit 0 m (now (l .entry)) (now (l .exit)) ⌝ }
 {

@@ -7,7 +7,7 @@ use native.Mathlib.Nat.{sub-zero}
 use native.Mathlib.Omega.{arith}
 use native.Mathlib.Numerals.{add-one}
 use lib.ListN.{length, getD, take, set, replicate, length-append, length-set, length-replicate, getD-replicate, List·getD-append, List·getD-eq-default}
-use lib.Seq.{length-take-le, getD-take, getD-at, getD-append-add, getD-set-same, getD-set-other, set-at, append-snoc, take-at, ext-getD}
+use lib.Seq.{getD-at, getD-append-add, getD-set-same, getD-set-other, set-at, append-snoc, take-at, ext-getD}
 use Rattle.numbers.specs.Listed.{listed, Begins, padded}
 use Rattle.numbers.proofs.Cases.{lt-or-ge}
 
@@ -31,12 +31,6 @@ module _ (f : ℕ → ℕ) where
   pub listed-more : (m : ℕ) → listed f (m + 1) ≡ listed f m ++ (f m ∷ [])
   unfolding listed
   listed-more m = rw add-one refl
-
-  pub listed-take : (m k : ℕ) → k ≤ m → take k (listed f m) ≡ listed f k
-  listed-take m k h =
-      let long : length (take k (listed f m)) ≡ k = length-take-le k (listed f m) (omega (arith, listed-length m)) in
-      ext-getD 0 _ _ (long ∙ sym (listed-length k))
-      (λ i l. getD-take k (listed f m) i 0 (omega arith) ∙ listed-at m i (omega arith) ∙ sym (listed-at k i (omega arith)))
 
 pub listed-same : (f g : ℕ → ℕ) (m : ℕ) → ((i : ℕ) → i < m → f i ≡ g i) → listed f m ≡ listed g m
 unfolding listed

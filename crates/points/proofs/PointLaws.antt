@@ -1,11 +1,11 @@
 -- The points of a valid plan: how many numbers they have, that each numerator is below its denominator, and that blocks of points join.
 -- Assumes nothing.
-use mathlib.Core.Path.{_≡_, sym}
+use mathlib.Core.Path.{_≡_}
 use mathlib.Core.List.{_++_, append-assoc, append-nil}
-use Prim.Native.Nat.{ℕ, zero, suc, _+_, _*_, _^_, _<_}
-use native.Mathlib.Nat.{add-zero, add-suc, add-assoc, zero-mul, suc-mul}
+use Prim.Native.Nat.{ℕ, zero, suc, _+_, _^_, _<_}
+use native.Mathlib.Nat.{add-zero, add-suc, add-assoc}
 use native.Mathlib.Omega.{arith}
-use lib.ListN.{length, getD, length-append}
+use lib.ListN.{length, getD}
 use Rattle.numbers.proofs.DepthLaws.{denominator-lt}
 use Rattle.numbers.proofs.ListedLaws.{listed-length}
 use Rattle.halton.proofs.ImageLaws.{image-digits}
@@ -44,12 +44,6 @@ numerator-of-lt (sobol axes) v n i h =
 pub point-of-length : (p : Plan) (n : ℕ) → length (pointOf p n) ≡ axisCount p
 unfolding pointOf
 point-of-length p n = listed-length (numeratorOf p n) (axisCount p)
-
-pub points-from-length : (p : Plan) (n k : ℕ) → length (pointsFrom p n k) ≡ k * axisCount p
-unfolding pointsFrom
-points-from-length p n zero = sym (zero-mul (axisCount p))
-points-from-length p n (suc k) =
-    rw (length-append, points-from-length p n k, point-of-length, suc-mul)
 
 -- a block of j points and then one of k points is a block of j + k
 pub points-from-more : (p : Plan) (n j k : ℕ) → pointsFrom p n (j + k) ≡ pointsFrom p n j ++ pointsFrom p (n + j) k

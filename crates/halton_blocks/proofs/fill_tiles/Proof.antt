@@ -28,7 +28,7 @@ add-tile-at : tie.Need-add-tile-at Inv-loop μ-loop
 add-tile-at c = omega arith
 
 tile-at-requires : tie.Need-tile-at-requires Inv-loop μ-loop
-tile-at-requires c κs = omega (arith, table-pos (c .before .before .before .before .before .pre .1 .0 .2) (omega arith))
+tile-at-requires c κs = omega (arith, table-pos (c .before .before .before .before .before .pre .0 .0 .table) (omega arith))
 
 add-jump : tie.Need-add-jump Inv-loop μ-loop
 add-jump c = omega arith
@@ -37,7 +37,7 @@ sub-jump : tie.Need-sub-jump Inv-loop μ-loop
 sub-jump c = omega (arith, c .tile-at .ensures .back)
 
 jump-requires : tie.Need-jump-requires Inv-loop μ-loop
-jump-requires c κs = (omega arith, omega arith, omega arith, c .before .before .before .before .before .before .pre .0 .3)
+jump-requires c κs = (omega arith, omega arith, omega arith, c .before .before .before .before .before .before .pre .0 .0 .digits)
 
 -- the part's one number, by the table of images
 number : (c : tie.After-jump Inv-loop μ-loop) →
@@ -53,13 +53,13 @@ run-requires c κs =
     let a = s .args in
     let e = c .before .before .tile-at .ensures in (
       (
-        rw (number (c .before)) (point-below (s .pre .0 .3) (omega arith) (omega arith) _),
+        rw (number (c .before)) (point-below (s .pre .0 .0 .digits) (omega arith) (omega arith) _),
         omega (arith, e .further),
         omega (arith, e .in-table),
         omega arith,
         omega (arith, mul-le-mul-right {m = c .before .before .tile-at .result .end} {n = a .hi} (a .s) (e .in-rows)),
       ),
-      λ x h. entry-below (s .pre .0 .3) (omega arith) (s .pre .1 .0 .2) (omega arith) x (omega (arith, e)),
+      λ x h. entry-below (s .pre .0 .0 .digits) (omega arith) (s .pre .0 .0 .table) (omega arith) x (omega (arith, e)),
     )
 
 loop-less : tie.Need-loop-less Inv-loop μ-loop
@@ -74,7 +74,7 @@ loop-again c =
       omega (arith, e .further),
       e .in-rows,
       column-join (l .inv .2)
-          (column-as (c .before .before .run .ensures) (tabled (now (a .l)) (a .b) (a .n)) (tabled-run (now (a .l)) (s .pre .0 .3) (omega arith) (s .pre .1 .0 .2) (a .n) e (number (c .before .before .before .before))))
+          (column-as (c .before .before .run .ensures) (tabled (now (a .l)) (a .b) (a .n)) (tabled-run (now (a .l)) (s .pre .0 .0 .digits) (omega arith) (s .pre .0 .0 .table) (a .n) e (number (c .before .before .before .before))))
           (omega arith) (omega (arith, e .further)) (omega arith),
     )
 

@@ -26,7 +26,12 @@ same-length-2 c = search needs
 returns : tie.Need-returns
 returns c =
     let e = c .before .before .table .ensures in
-    record { few = e .0; images = c .before .before .before .before .before .before .before .before .images .ensures; table = e .1 }
+    let i = c .before .before .before .before .before .before .before .before .images .ensures in
+    let a = c .before .before .before .before .before .before .before .before .before .before .before .before .args in
+    record {
+      ready = record { low = omega arith; high = omega arith; few = e .0; digits = table-digits i (image-digits (a .family) (a .b) (omega arith)) (omega arith); table = e .1 };
+      images = i;
+    }
 
 pub make-tables-spec : {M : Type 1} → statement M
 make-tables-spec =

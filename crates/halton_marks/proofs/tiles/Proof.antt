@@ -27,7 +27,7 @@ add-tile-at : tie.Need-add-tile-at Inv-loop μ-loop
 add-tile-at c = omega arith
 
 tile-at-requires : tie.Need-tile-at-requires Inv-loop μ-loop
-tile-at-requires c κs = omega (arith, table-pos (c .before .before .before .before .before .pre .1 .0 .2) (omega arith))
+tile-at-requires c κs = omega (arith, table-pos (c .before .before .before .before .before .pre .0 .0 .table) (omega arith))
 
 add-jump : tie.Need-add-jump Inv-loop μ-loop
 add-jump c = omega arith
@@ -36,7 +36,7 @@ sub-jump : tie.Need-sub-jump Inv-loop μ-loop
 sub-jump c = omega (arith, c .tile-at .ensures .back)
 
 jump-requires : tie.Need-jump-requires Inv-loop μ-loop
-jump-requires c κs = (omega arith, omega arith, omega arith, c .before .before .before .before .before .before .pre .0 .3)
+jump-requires c κs = (omega arith, omega arith, omega arith, c .before .before .before .before .before .before .pre .0 .0 .digits)
 
 -- the part's one number, by the table of images
 number : (c : tie.After-jump Inv-loop μ-loop) →
@@ -62,7 +62,7 @@ loop-again c =
     let e = c .before .before .before .before .before .tile-at .ensures in (
       e .in-rows,
       marked-join (l .inv .1)
-          (marked-as (c .before .before .run .ensures) (tabled (now (a .images)) (a .b) (a .n)) (tabled-run (now (a .images)) (s .pre .0 .3) (omega arith) (s .pre .1 .0 .2) (a .n) e (number (c .before .before .before .before))))
+          (marked-as (c .before .before .run .ensures) (tabled (now (a .images)) (a .b) (a .n)) (tabled-run (now (a .images)) (s .pre .0 .0 .digits) (omega arith) (s .pre .0 .0 .table) (a .n) e (number (c .before .before .before .before))))
           (omega arith) (omega (arith, e .further)),
     )
 

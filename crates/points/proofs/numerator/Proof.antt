@@ -4,7 +4,7 @@ use mathlib.Core.Path.{_∙_}
 use native.Mathlib.Omega.{arith}
 use borrow.Author.Needs.{needs}
 use Rattle.halton.proofs.ImageLaws.{numerator-by-family}
-use Rattle.points.proofs.ArrayLaws.{base-range, numerator-by-part, numerator-by-base}
+use Rattle.points.proofs.ArrayLaws.{numerator-by-part, numerator-by-base}
 use Rattle.points.proofs.numerator.Statement.{statement}
 use Rattle.points.proofs.numerator.Tie as tie
 
@@ -46,14 +46,14 @@ slice-aggregate-jump c = search needs
 jump-requires-2 : tie.Need-jump-requires-2
 jump-requires-2 c κs =
     let s = c .before .before .before .before .before in
-    let r = base-range (s .pre .0) (s .args .i) (omega arith) (λ e. omega arith) in
-    (r .0, r .1, omega arith, search needs)
+    let low = s .pre .0 .base .low (λ e. omega arith) in
+    (low, s .pre .0 .base .high (λ e. omega arith), omega arith, search needs)
 
 returns-2 : tie.Need-returns-2
 returns-2 c =
     let s = c .before .before .before .before .before .before in
     let a = s .args in
-    let r = base-range (s .pre .0) (a .i) (omega arith) (λ e. omega arith) in
+    let low = s .pre .0 .base .low (λ e. omega arith) in
     c .jump2 .ensures ∙ numerator-by-family _ _ (omega arith) _ ∙ numerator-by-base (a .family) (a .bases .now) (a .directions .now) (a .n) (a .i) (λ e. omega arith)
 
 pub numerator-spec : {M : Type 1} → statement M
