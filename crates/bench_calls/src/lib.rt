@@ -50,7 +50,7 @@ pub extern "C" fn bench_axis_jumps(family: u64, b: u64, first: u64, rounds: u64)
     let mut x = 0;
     let mut i = 0;
     while i < rounds {
-        let r = halton::jump(family, b, (first ^ i) % 4294967296);
+        let r = halton::jump(family, b, &[], (first ^ i) % 4294967296);
         x = x ^ r.numerator;
         i += 1;
     }

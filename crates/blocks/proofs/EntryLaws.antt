@@ -7,8 +7,11 @@ use native.Mathlib.Omega.{arith}
 use lib.ListN.{length, getD, set, take, drop, length-drop, take-append-drop}
 use lib.Seq.{length-take-le, take-at, drop-at, take-append-le, drop-append-le, getD-set-same, getD-set-other}
 use Rattle.numbers.proofs.Cases.{lt-or-ge}
-use Rattle.halton_blocks.specs.Filling.{Made}
-use Rattle.blocks.specs.Tables.{entriesAt, AllMade}
+use Rattle.points.specs.Arrays.{numeratorFrom}
+use Rattle.points.proofs.ArrayLaws.{numerator-by-base}
+use Rattle.halton_blocks.specs.Filling.{haltonFrom, Made}
+use Rattle.halton_blocks.proofs.MadeLaws.{made-points}
+use Rattle.blocks.specs.Tables.{entriesAt, tabledAt, AllReady, AllMade}
 
 -- l up to axis i's entries, then ys, then the rest
 abbrev pub replaced : List ℕ → ℕ → List ℕ → List ℕ → List ℕ
@@ -31,31 +34,35 @@ module _ (l : List ℕ) (i : ℕ) (ys rest : List ℕ) (long : length l ≡ 1536
           ap (take 256) (drop-append-le (256 * j) (take (256 * i) l) b (omega (arith, front)))
           ∙ take-append-le 256 (drop (256 * j) (take (256 * i) l)) b (omega (arith, front, length-drop (256 * j) (take (256 * i) l)))
 
-pub all-at : (family axes : ℕ) (bases sizes images tables : List ℕ) → AllMade family axes bases sizes images tables → (i : ℕ) → i < axes
-    → Made family (getD bases i 0) (getD sizes i 0) (entriesAt images i) (entriesAt tables i)
-unfolding AllMade
-all-at family axes bases sizes images tables all = all
+pub all-ready : {family axes : ℕ} {bases sizes images tables : List ℕ} → AllMade family axes bases sizes images tables
+    → AllReady axes bases sizes images tables
+all-ready all = record { at = λ i h. all .at i h .ready }
+
+-- the points by the tables are the plan's
+pub all-points : {family axes : ℕ} {bases sizes images tables : List ℕ} → AllMade family axes bases sizes images tables → (family ≡ 2 → ⊥)
+    → (vs : List ℕ) (n a : ℕ) → a < axes → (i : ℕ) → tabledAt bases images n a i ≡ numeratorFrom family bases vs n a i
+unfolding tabledAt numeratorFrom haltonFrom
+all-points {family} {axes} {bases} all f vs n a h i = made-points (all .at a h) n i ∙ numerator-by-base family bases vs (n + i) a f
 
 pub all-none : (family : ℕ) (bases sizes images tables : List ℕ) → AllMade family 0 bases sizes images tables
-unfolding AllMade
-all-none family bases sizes images tables i h = absurd (omega arith)
+all-none family bases sizes images tables = record { at = λ i h. absurd (omega arith) }
 
 -- one axis more, written over its entries
 pub all-more : (family i : ℕ) (bases sizes images tables : List ℕ) (size : ℕ) (ys ys′ zs zs′ : List ℕ) → i < 6 → length sizes ≡ 6
     → length images ≡ 1536 → length tables ≡ 1536 → length ys ≡ 256 → length zs ≡ 256
     → AllMade family i bases sizes images tables → Made family (getD bases i 0) size ys zs
     → AllMade family (i + 1) bases (set sizes i size) (replaced images i ys ys′) (replaced tables i zs zs′)
-unfolding AllMade
-all-more family i bases sizes images tables size ys ys′ zs zs′ few many li lt ly lz all made j h =
-    ⊎-elim (λ q. before q (all j q)) (λ q. here (omega arith)) (lt-or-ge j i)
+all-more family i bases sizes images tables size ys ys′ zs zs′ few many li lt ly lz all made = record {
+  at = λ j h. ⊎-elim (λ q. before j q (all .at j q)) (λ q. here j (omega arith)) (lt-or-ge j i);
+}
   where
-    Now : Type 0
-    Now = Made family (getD bases j 0) (getD (set sizes i size) j 0) (entriesAt (replaced images i ys ys′) j) (entriesAt (replaced tables i zs zs′) j)
+    Now : ℕ → Type 0
+    Now j = Made family (getD bases j 0) (getD (set sizes i size) j 0) (entriesAt (replaced images i ys ys′) j) (entriesAt (replaced tables i zs zs′) j)
 
-    before : j < i → Made family (getD bases j 0) (getD sizes j 0) (entriesAt images j) (entriesAt tables j) → Now
-    before q m =
+    before : (j : ℕ) → j < i → Made family (getD bases j 0) (getD sizes j 0) (entriesAt images j) (entriesAt tables j) → Now j
+    before j q m =
         rw (getD-set-other sizes i j size 0 (omega arith), entries-before images i ys ys′ li few ly j q, entries-before tables i zs zs′ lt few lz j q) m
 
-    here : j ≡ i → Now
-    here q =
+    here : (j : ℕ) → j ≡ i → Now j
+    here j q =
         rw (q, getD-set-same sizes i size 0 (omega arith), entries-here images i ys ys′ li few ly, entries-here tables i zs zs′ lt few lz) made

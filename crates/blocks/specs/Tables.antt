@@ -2,13 +2,21 @@
 use mathlib.Core.List.{List}
 use Prim.Native.Nat.{ℕ, _*_, _<_}
 use lib.ListN.{getD, take, drop}
-use Rattle.halton_blocks.specs.Filling.{Made}
+use Rattle.tables.specs.Tables.{tabled}
+use Rattle.halton_blocks.specs.Filling.{Ready, Made}
 
 -- the entries of axis i
 abbrev pub entriesAt : List ℕ → ℕ → List ℕ
 entriesAt l i = take 256 (drop (256 * i) l)
 
--- the images and the first points of each axis
-unfoldable pub AllMade : ℕ → ℕ → List ℕ → List ℕ → List ℕ → List ℕ → Type 0
-AllMade family axes bases sizes images tables =
-    (i : ℕ) → i < axes → Made family (getD bases i 0) (getD sizes i 0) (entriesAt images i) (entriesAt tables i)
+-- the numerator i places after index n on axis a, by the images of its digits
+unfoldable pub tabledAt : List ℕ → List ℕ → ℕ → ℕ → ℕ → ℕ
+tabledAt bases images n a i = tabled (entriesAt images a) (getD bases a 0) n i
+
+-- the tables of each axis are ready
+pub record AllReady (axes : ℕ) (bases sizes images tables : List ℕ) : Type 0 where
+  pub at : (i : ℕ) → i < axes → Ready (getD bases i 0) (getD sizes i 0) (entriesAt images i) (entriesAt tables i)
+
+-- and their images are a family's
+pub record AllMade (family axes : ℕ) (bases sizes images tables : List ℕ) : Type 0 where
+  pub at : (i : ℕ) → i < axes → Made family (getD bases i 0) (getD sizes i 0) (entriesAt images i) (entriesAt tables i)

@@ -4,13 +4,12 @@ ghost use mathlib.Core.List.{_++_};
 ghost use Prim.Native.Nat.{ℕ, _+_, _*_, _^_, _<_, _≤_};
 ghost use lib.ListN.{length, drop};
 ghost use Rattle.columns.specs.Rows.{Column, Columns};
-ghost use Rattle.points.specs.Arrays.{numeratorFrom, pointsAt, Arrays};
-ghost use Rattle.blocks.specs.Tables.{AllMade};
+ghost use Rattle.points.specs.Arrays.{numeratorFrom, pointsAt, BaseAt, AxisAt, Arrays};
+ghost use Rattle.blocks.specs.Tables.{tabledAt, AllReady, AllMade};
 
 // Writes column `j` of the rows `lo` to `hi`, which have `s` words each: the numerators of axis `i`, row 0 being index `n`.
 fn fill_column(
     family: u64,
-    axes: usize,
     bases: &[u64],
     directions: &[u64],
     i: usize,
@@ -21,7 +20,7 @@ fn fill_column(
     j: usize,
     out: &mut [u64],
 )
-    requires { ⌜ Arrays family axes (now bases) (now directions) × (i < axes) ⌝ }
+    requires { ⌜ AxisAt family (now bases) (now directions) i ⌝ }
     requires { ⌜ (n + hi ≤ 2 ^ 32) × (lo ≤ hi) × (j < s) × (hi * s ≤ length (now out)) ⌝ }
     ensures { λ r. ⌜ Column (numeratorFrom family (now (bases .entry)) (now (directions .entry)) n i) lo hi s j (now (out .entry)) (now (out .exit)) ⌝ }
 {
@@ -50,7 +49,7 @@ fn fill_rows(
 {
     let mut i = 0;
     while i < axes {
-        fill_column(family, axes, bases, directions, i, n, lo, hi, axes, i, out);
+        fill_column(family, bases, directions, i, n, lo, hi, axes, i, out);
         i += 1;
     }
 }
@@ -60,12 +59,12 @@ fn make_all_tables(
     family: u64,
     axes: usize,
     bases: &[u64],
-    directions: &[u64],
     m: usize,
     images: &mut [u8],
     tables: &mut [u64],
 ) -> [usize; 6]
-    requires { ⌜ Arrays family axes (now bases) (now directions) × (family ≡ 2 → ⊥) × (length (now images) ≡ 1536) × (length (now tables) ≡ 1536) ⌝ }
+    requires { ⌜ (axes ≤ 6) × ((i : ℕ) → i < axes → BaseAt family (now bases) i) × (family ≡ 2 → ⊥) ⌝ }
+    requires { ⌜ (length (now images) ≡ 1536) × (length (now tables) ≡ 1536) ⌝ }
     ensures { λ r. ⌜ AllMade family axes (now (bases .entry)) r (now (images .exit)) (now (tables .exit)) ⌝ }
 {
     let mut sizes = [0usize; 6];
@@ -87,10 +86,8 @@ fn make_all_tables(
 
 // Writes the rows `lo` to `hi` of a Halton plan, axis after axis, by the tables of all axes.
 fn table_rows(
-    family: u64,
     axes: usize,
     bases: &[u64],
-    directions: &[u64],
     images: &[u8],
     tables: &[u64],
     sizes: &[usize],
@@ -99,10 +96,9 @@ fn table_rows(
     hi: usize,
     out: &mut [u64],
 )
-    requires { ⌜ Arrays family axes (now bases) (now directions) × (family ≡ 2 → ⊥) × (length (now images) ≡ 1536) × (length (now tables) ≡ 1536) ⌝ }
-    requires { ⌜ AllMade family axes (now bases) (now sizes) (now images) (now tables) × (length (now sizes) ≡ 6) ⌝ }
-    requires { ⌜ (n + hi ≤ 2 ^ 32) × (lo ≤ hi) × (hi * axes ≤ length (now out)) ⌝ }
-    ensures { λ r. ⌜ Columns (numeratorFrom family (now (bases .entry)) (now (directions .entry)) n) lo hi axes axes (now (out .entry)) (now (out .exit)) ⌝ }
+    requires { ⌜ (axes ≤ 6) × (length (now bases) ≡ 6) × (length (now sizes) ≡ 6) × (length (now images) ≡ 1536) × (length (now tables) ≡ 1536) ⌝ }
+    requires { ⌜ AllReady axes (now bases) (now sizes) (now images) (now tables) × (n + hi ≤ 2 ^ 32) × (lo ≤ hi) × (hi * axes ≤ length (now out)) ⌝ }
+    ensures { λ r. ⌜ Columns (tabledAt (now (bases .entry)) (now (images .entry)) n) lo hi axes axes (now (out .entry)) (now (out .exit)) ⌝ }
 {
     let mut i = 0;
     while i < axes {
@@ -123,6 +119,7 @@ fn table_rows(
         i += 1;
     }
 }
+
 // Writes the `k` points of the indexes from `n` on to the front of `out`, so many rows at a time that they stay near while the axes pass.
 fn fill_plainly(
     out: &mut [u64],
@@ -144,7 +141,7 @@ fn fill_plainly(
     }
 }
 
-// The same for a Halton plan, by tables of all axes that are made once.
+// Writes the `k` points of a Halton plan from index `n` on to the front of `out`, by tables of all axes that are made once.
 fn fill_by_tables(
     out: &mut [u64],
     family: u64,
@@ -159,28 +156,17 @@ fn fill_by_tables(
 {
     let mut images = [0u8; 1536];
     let mut tables = [0u64; 1536];
-    let sizes = make_all_tables(family, axes, bases, directions, k, &mut images, &mut tables);
+    let sizes = make_all_tables(family, axes, bases, k, &mut images, &mut tables);
     let mut row = 0;
     while row < k {
         let end = columns::least(row + 512, k);
-        table_rows(
-            family,
-            axes,
-            bases,
-            directions,
-            &images,
-            &tables,
-            &sizes,
-            n,
-            row,
-            end,
-            out,
-        );
+        table_rows(axes, bases, &images, &tables, &sizes, n, row, end, out);
         row = end;
     }
 }
 
-// The same: tables of all axes are worth their room for many points of a Halton plan.
+// Writes the `k` points of the indexes from `n` on to the front of `out`. For many points of a Halton plan tables of all axes are worth their
+// room.
 pub fn fill(
     out: &mut [u64],
     family: u64,

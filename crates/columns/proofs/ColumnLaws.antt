@@ -75,6 +75,10 @@ columns-to {g} {lo} {hi} {s} {j} {k} {old} {new} c e = subst (λ (i : ℕ). Colu
 pub columns-rows : {g : ℕ → ℕ → ℕ} {lo hi s j k : ℕ} {old new : List ℕ} → Columns g lo hi s j old new → hi ≡ k → Columns g lo k s j old new
 columns-rows {g} {lo} {hi} {s} {j} {k} {old} {new} c e = subst (λ (i : ℕ). Columns g lo i s j old new) e c
 
+pub columns-as : {g : ℕ → ℕ → ℕ} {lo hi s j : ℕ} {old new : List ℕ} → Columns g lo hi s j old new → (h : ℕ → ℕ → ℕ)
+    → ((a : ℕ) → a < j → (i : ℕ) → g a i ≡ h a i) → Columns h lo hi s j old new
+columns-as c h e = record { same-length = c .same-length; wrote = λ i a l k n. c .wrote i a l k n ∙ e a n i; kept = c .kept }
+
 module _ {g : ℕ → ℕ → ℕ} {lo hi s : ℕ} {old new last : List ℕ} where
   pub columns-more : {j : ℕ} → Columns g lo hi s j old new → Column (g j) lo hi s j new last → j < s → Columns g lo hi s (j + 1) old last
   columns-more {j} c d l = record {

@@ -1,2 +1,3 @@
--- Laws of columns of a buffer.
+-- Laws of columns of a buffer, and of tables.
 pub mod ColumnLaws
+pub mod TileLaws

@@ -1,6 +1,6 @@
 -- The reversing loop: what it holds after some digits of the index, that one more digit keeps it, and what it has made at the depth.
 -- Over any map σ of the digits. Assumes nothing.
-use mathlib.Core.Path.{_≡_, refl, sym, ap, ap₂, _∙_, subst}
+use mathlib.Core.Path.{_≡_, sym, ap, ap₂, _∙_, subst}
 use Prim.Native.Nat.{ℕ, _+_, _-_, _*_, _/_, _%_, _^_, _<_, _≤_}
 use native.Mathlib.Nat.{zero-add, zero-mul, one-mul, mod-eq-sub-div-mul}
 use native.Mathlib.Omega.{arith}

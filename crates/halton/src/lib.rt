@@ -4,25 +4,37 @@ ghost use Prim.Native.Nat.{_+_, _^_, _<_, _≤_};
 ghost use Rattle.numbers.specs.Depth.{denominator};
 ghost use Rattle.permutation.specs.Families.{imageOf};
 ghost use Rattle.halton.specs.Axis.{numerator};
+ghost use Rattle.halton.specs.Images.{imageIn, imageBy, DigitMap};
 
 // What reversing an index tells.
 pub struct Reversed {
     pub numerator: u64,
 }
 
-// The numerator of index `n` in base `b`: the reversing loop, by Horner's rule over the digits of `n`, lowest first, to the depth. It divides by
-// `b` once: where r × b is below 2^32, r / b is r × (2^32 / b + 1) / 2^32.
-pub fn jump(family: u64, b: u64, n: u64) -> Reversed
-    requires { ⌜ (2 ≤ b) × (b ≤ 256) × (n < 2 ^ 32) ⌝ }
-    ensures { λ r. ⌜ r .numerator ≡ numerator (imageOf family b) b n ⌝ }
+// The image of the digit `d` in base `b`: the entry of the lent table `images` where that has all of the base's digits, else by the family.
+fn digit_image(family: u64, b: u64, images: &[u8], d: u64) -> u64
+    requires { ⌜ (2 ≤ b) × (d < b) ⌝ }
+    ensures { λ r. ⌜ r ≡ imageBy family b (now (images .entry)) d ⌝ }
+{
+    if (images.len() as u64) < b {
+        return permutation::image(family, b, d);
+    }
+    images[d as usize] as u64
+}
+
+// The numerator of index `n` in base `b`: the reversing loop, by Horner's rule over the digits of `n`, lowest first, to the depth. `images` is a
+// lent table of the digits' images, or empty. It divides by `b` once: where r × b is below 2^32, r / b is r × (2^32 / b + 1) / 2^32.
+pub fn jump(family: u64, b: u64, images: &[u8], n: u64) -> Reversed
+    requires { ⌜ (2 ≤ b) × (b ≤ 256) × (n < 2 ^ 32) × DigitMap b (imageIn (now images)) ⌝ }
+    ensures { λ r. ⌜ r .numerator ≡ numerator (imageBy family b (now (images .entry))) b n ⌝ }
 {
     let m = 4294967296 / b + 1;
     let mut rest = numbers::quotient(n, b, m);
-    let mut x = permutation::image(family, b, n - rest * b);
+    let mut x = digit_image(family, b, images, n - rest * b);
     let mut p = b;
     while p < 4294967296 {
         let q = rest * m / 4294967296;
-        x = x * b + permutation::image(family, b, rest - q * b);
+        x = x * b + digit_image(family, b, images, rest - q * b);
         rest = q;
         p = p * b;
     }

@@ -2,16 +2,16 @@
 // table and one number.
 ghost use Prim.Native.Nat.{ℕ, _+_, _-_, _*_, _^_, _<_, _≤_};
 ghost use lib.ListN.{length, getD};
-ghost use Rattle.images.specs.Images.{imageIn};
 ghost use Rattle.columns.specs.Rows.{Column};
-ghost use Rattle.tables.specs.Tables.{Images, Table, shifted, tabled};
-ghost use Rattle.halton_blocks.specs.Filling.{haltonFrom, Made};
+ghost use Rattle.columns.specs.Tiles.{runOf};
+ghost use Rattle.tables.specs.Tables.{tabled};
+ghost use Rattle.halton_blocks.specs.Filling.{haltonFrom, Ready, Made};
 
 // Writes column `j` of the rows `lo` to `hi`: `base` and the table's entries, from entry `r` on.
 fn run(base: u64, t: &[u64], r: usize, lo: usize, hi: usize, s: usize, j: usize, out: &mut [u64])
     requires { ⌜ (base < 2 ^ 40) × (lo ≤ hi) × (hi - lo + r ≤ length (now t)) × (j < s) × (hi * s ≤ length (now out)) ⌝ }
     requires { ⌜ ((x : ℕ) → x < hi - lo + r → getD (now t) x 0 < 2 ^ 40) ⌝ }
-    ensures { λ v. ⌜ Column (shifted base (now (t .entry)) lo r) lo hi s j (now (out .entry)) (now (out .exit)) ⌝ }
+    ensures { λ v. ⌜ Column (runOf _+_ base (now (t .entry)) lo r) lo hi s j (now (out .entry)) (now (out .exit)) ⌝ }
 {
     let mut i = lo;
     while i < hi {
@@ -20,8 +20,8 @@ fn run(base: u64, t: &[u64], r: usize, lo: usize, hi: usize, s: usize, j: usize,
     }
 }
 
-// Writes column `j` of the rows `lo` to `hi`, row 0 being index `n`, a table's length at a time: `l` are the images of base `b`, and `t` its
-// first `size` points.
+// Writes column `j` of the rows `lo` to `hi`, row 0 being index `n`, a table's length at a time: `l` are the images of base `b`, all of them, so
+// that no family is asked, and `t` its first `size` points.
 pub fn fill_tiles(
     b: u64,
     l: &[u8],
@@ -34,8 +34,7 @@ pub fn fill_tiles(
     j: usize,
     out: &mut [u64],
 )
-    requires { ⌜ (2 ≤ b) × (b ≤ 256) × (256 ≤ length (now l)) × Images b (now l) ⌝ }
-    requires { ⌜ (size ≤ 256) × (256 ≤ length (now t)) × Table (imageIn (now l)) b size (now t) ⌝ }
+    requires { ⌜ Ready b size (now l) (now t) × (256 ≤ length (now l)) × (256 ≤ length (now t)) ⌝ }
     requires { ⌜ (n + hi ≤ 2 ^ 32) × (lo ≤ hi) × (j < s) × (hi * s ≤ length (now out)) ⌝ }
     ensures { λ v. ⌜ Column (tabled (now (l .entry)) b n) lo hi s j (now (out .entry)) (now (out .exit)) ⌝ }
 {
@@ -44,8 +43,8 @@ pub fn fill_tiles(
         let part = columns::tile_at(n + (i as u64), size, i, hi);
         let r = part.place;
         let end = part.end;
-        let base = tables::jump(b, l, n + (i as u64) - (r as u64));
-        run(base, t, r, i, end, s, j, out);
+        let first = halton::jump(0, b, l, n + (i as u64) - (r as u64));
+        run(first.numerator, t, r, i, end, s, j, out);
         i = end;
     }
 }
@@ -91,7 +90,7 @@ fn table_column(
     fill_tiles(b, &l, size, &t, n, lo, hi, s, j, out);
 }
 
-// The same by a jump for each row.
+// Writes column `j` of the rows `lo` to `hi`: the numerators in base `b`, row 0 being index `n`, by a jump for each row.
 fn jump_column(
     family: u64,
     b: u64,
@@ -107,13 +106,13 @@ fn jump_column(
 {
     let mut i = lo;
     while i < hi {
-        let r = halton::jump(family, b, n + (i as u64));
+        let r = halton::jump(family, b, &[], n + (i as u64));
         out[i * s + j] = r.numerator;
         i += 1;
     }
 }
 
-// The same: a table is worth its making from 8 rows on.
+// Writes column `j` of the rows `lo` to `hi`: the numerators in base `b`, row 0 being index `n`. From 8 rows on a table is worth its making.
 pub fn halton_column(
     family: u64,
     b: u64,

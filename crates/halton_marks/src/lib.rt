@@ -3,9 +3,9 @@
 ghost use mathlib.Core.Path.{_≡_};
 ghost use Prim.Native.Nat.{_+_, _-_, _^_, _<_, _≤_};
 ghost use lib.ListN.{length};
-ghost use Rattle.images.specs.Images.{imageIn};
-ghost use Rattle.tables.specs.Tables.{Images, Table, shifted, tabled};
-ghost use Rattle.halton_blocks.specs.Filling.{haltonFrom};
+ghost use Rattle.columns.specs.Tiles.{runOf};
+ghost use Rattle.tables.specs.Tables.{tabled};
+ghost use Rattle.halton_blocks.specs.Filling.{haltonFrom, Ready};
 ghost use Rattle.marks.specs.Marking.{Marked};
 
 // What `base` leaves of `limit`: 0 where it is no less.
@@ -18,7 +18,7 @@ fn left(limit: u64, base: u64) -> u64
 // Tests the points `lo` to `hi`: `base` and the table's entries, from entry `r` on.
 fn run(base: u64, t: &[u64], r: usize, lo: usize, hi: usize, limit: u64, l: &mut [u8])
     requires { ⌜ (lo ≤ hi) × (hi - lo + r ≤ length (now t)) × (hi ≤ length (now l)) ⌝ }
-    ensures { λ v. ⌜ Marked (shifted base (now (t .entry)) lo r) limit lo hi (now (l .entry)) (now (l .exit)) ⌝ }
+    ensures { λ v. ⌜ Marked (runOf _+_ base (now (t .entry)) lo r) limit lo hi (now (l .entry)) (now (l .exit)) ⌝ }
 {
     let bound = left(limit, base);
     let mut i = lo;
@@ -28,10 +28,10 @@ fn run(base: u64, t: &[u64], r: usize, lo: usize, hi: usize, limit: u64, l: &mut
     }
 }
 
-// Tests the first `m` points from index `n` on, a table's length at a time: `images` are those of base `b`, and `t` its first `size` points.
+// Tests the first `m` points from index `n` on, a table's length at a time: `images` are those of base `b`, all of them, so that no family is
+// asked, and `t` its first `size` points.
 fn tiles(b: u64, images: &[u8], size: usize, t: &[u64], n: u64, m: usize, limit: u64, l: &mut [u8])
-    requires { ⌜ (2 ≤ b) × (b ≤ 256) × (256 ≤ length (now images)) × Images b (now images) ⌝ }
-    requires { ⌜ (size ≤ 256) × (256 ≤ length (now t)) × Table (imageIn (now images)) b size (now t) ⌝ }
+    requires { ⌜ Ready b size (now images) (now t) × (256 ≤ length (now images)) × (256 ≤ length (now t)) ⌝ }
     requires { ⌜ (n + m ≤ 2 ^ 32) × (m ≤ length (now l)) ⌝ }
     ensures { λ v. ⌜ Marked (tabled (now (images .entry)) b n) limit 0 m (now (l .entry)) (now (l .exit)) ⌝ }
 {
@@ -40,8 +40,8 @@ fn tiles(b: u64, images: &[u8], size: usize, t: &[u64], n: u64, m: usize, limit:
         let part = columns::tile_at(n + (i as u64), size, i, m);
         let r = part.place;
         let end = part.end;
-        let base = tables::jump(b, images, n + (i as u64) - (r as u64));
-        run(base, t, r, i, end, limit, l);
+        let first = halton::jump(0, b, images, n + (i as u64) - (r as u64));
+        run(first.numerator, t, r, i, end, limit, l);
         i = end;
     }
 }

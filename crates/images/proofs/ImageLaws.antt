@@ -1,79 +1,65 @@
--- Tables of images: how one grows by a store, and how one is made in place by its halves. Assumes nothing.
+-- Tables of images made in place by their halves. Assumes nothing.
 use mathlib.Core.Path.{_≡_, sym, ap, _∙_}
 use mathlib.Core.Logic.{⊎-elim}
 use mathlib.Core.List.{List}
 use Prim.Native.Nat.{ℕ, _+_, _-_, _<_, _≤_}
 use native.Mathlib.Omega.{arith}
-use lib.ListN.{length, set, length-set}
+use lib.ListN.{length, getD, set, length-set}
 use lib.Seq.{getD-set-same, getD-set-other}
+use Rattle.numbers.specs.Listed.{Begins}
 use Rattle.numbers.proofs.Cases.{lt-or-ge, eq-or-ne}
-use Rattle.images.specs.Images.{imageIn, Imaged}
-
-pub imaged-none : (σ : ℕ → ℕ) (l : List ℕ) → Imaged σ 0 l
-imaged-none σ l = record { at = λ d h. absurd (omega arith) }
-
-pub imaged-more : {σ : ℕ → ℕ} {b v : ℕ} {l : List ℕ} → Imaged σ b l → b < length l → v ≡ σ b → Imaged σ (b + 1) (set l b v)
-imaged-more {σ} {b} {v} {l} a h e = record {
-  at = λ d k. ⊎-elim (λ q. getD-set-other l b d v 0 (λ w. absurd (omega arith)) ∙ a .at d q) (λ q. here d (omega arith)) (lt-or-ge d b);
-}
-  where
-    here : (d : ℕ) → d ≡ b → imageIn (set l b v) d ≡ σ d
-    here d q = rw q (getD-set-same l b v 0 h ∙ e)
-
--- the images under another name
-pub imaged-as : {σ : ℕ → ℕ} {b : ℕ} {l : List ℕ} → Imaged σ b l → (τ : ℕ → ℕ) → ((d : ℕ) → d < b → σ d ≡ τ d) → Imaged τ b l
-imaged-as a τ e = record { at = λ d h. a .at d h ∙ e d h }
+use Rattle.numbers.proofs.ListedLaws.{begins-none, begins-more, begins-kept}
 
 -- ---- the halves of a table under τ, made in place from a table of h images under σ. The upper half starts at s.
 
 -- the first k entries of each half are written, and the rest of the first h are still to be read
 pub record Halves (σ τ : ℕ → ℕ) (h s k : ℕ) (l : List ℕ) : Type 0 where
-  pub low : (j : ℕ) → j < k → imageIn l j ≡ τ j
-  pub high : (j : ℕ) → j < k → imageIn l (s + j) ≡ τ (s + j)
-  pub rest : (j : ℕ) → k ≤ j → j < h → imageIn l j ≡ σ j
+  pub low : Begins τ k l
+  pub high : (j : ℕ) → j < k → getD l (s + j) 0 ≡ τ (s + j)
+  pub rest : (j : ℕ) → k ≤ j → j < h → getD l j 0 ≡ σ j
 
-pub halves-none : {σ : ℕ → ℕ} {h : ℕ} {l : List ℕ} (τ : ℕ → ℕ) (s : ℕ) → Imaged σ h l → Halves σ τ h s 0 l
-halves-none τ s a = record { low = λ j q. absurd (omega arith); high = λ j q. absurd (omega arith); rest = λ j p q. a .at j q }
+pub halves-none : {σ : ℕ → ℕ} {h : ℕ} {l : List ℕ} (τ : ℕ → ℕ) (s : ℕ) → Begins σ h l → Halves σ τ h s 0 l
+halves-none τ s a = record { low = begins-none τ _; high = λ j q. absurd (omega arith); rest = λ j p q. a .at j q }
 
 module _ {σ τ : ℕ → ℕ} {h s k : ℕ} {l : List ℕ} (a : Halves σ τ h s k l) where
   -- one entry more in each half
   pub halves-more : {p q x y : ℕ} → p ≡ k → q ≡ s + k → k < h → h ≤ s → s + k < length l → x ≡ τ k → y ≡ τ (s + k) → Halves σ τ h s (k + 1) (set (set l p x) q y)
   halves-more {p} {q} {x} {y} ep eq below up room ex ey = record {
-    low = λ j u. behind j (omega arith) ∙ ⊎-elim (λ e. front j e) (λ f. before j (omega arith) ∙ a .low j (omega arith)) (eq-or-ne j k);
+    low = begins-kept first q y (omega arith);
     high = λ j u. ⊎-elim (λ e. back j e) (λ f. behind (s + j) (omega arith) ∙ before (s + j) (omega arith) ∙ a .high j (omega arith)) (eq-or-ne j k);
     rest = λ j u v. behind j (omega arith) ∙ before j (omega arith) ∙ a .rest j (omega arith) v;
   }
     where
-      before : (j : ℕ) → (j ≡ p → ⊥) → imageIn (set l p x) j ≡ imageIn l j
+      before : (j : ℕ) → (j ≡ p → ⊥) → getD (set l p x) j 0 ≡ getD l j 0
       before j f = getD-set-other l p j x 0 f
 
-      behind : (j : ℕ) → (j ≡ q → ⊥) → imageIn (set (set l p x) q y) j ≡ imageIn (set l p x) j
+      behind : (j : ℕ) → (j ≡ q → ⊥) → getD (set (set l p x) q y) j 0 ≡ getD (set l p x) j 0
       behind j f = getD-set-other (set l p x) q j y 0 f
 
-      front : (j : ℕ) → j ≡ k → imageIn (set l p x) j ≡ τ j
-      front j e = rw (e, ← ep) (getD-set-same l p x 0 (omega arith) ∙ ex ∙ ap τ (sym ep))
+      first : Begins τ (k + 1) (set l p x)
+      first = rw ep (begins-more (a .low) (omega arith) ex)
 
-      back : (j : ℕ) → j ≡ k → imageIn (set (set l p x) q y) (s + j) ≡ τ (s + j)
+      back : (j : ℕ) → j ≡ k → getD (set (set l p x) q y) (s + j) 0 ≡ τ (s + j)
       back j e = rw (e, ← eq) (getD-set-same (set l p x) q y 0 (omega (arith, length-set l p x)) ∙ ey ∙ ap τ (sym eq))
 
   -- what the upper half says of a digit
-  upper : (d : ℕ) → s ≤ d → d < s + k → imageIn l d ≡ τ d
+  upper : (d : ℕ) → s ≤ d → d < s + k → getD l d 0 ≡ τ d
   upper d p q =
       let e : d ≡ s + (d - s) = omega arith in
-      ap (imageIn l) e ∙ a .high (d - s) (omega arith) ∙ ap τ {x = s + (d - s)} {y = d} (omega arith)
+      ap (λ (x : ℕ). getD l x 0) e ∙ a .high (d - s) (omega arith) ∙ ap τ {x = s + (d - s)} {y = d} (omega arith)
 
   -- halves that meet are the table
-  pub halves-meet : (b : ℕ) → s ≤ k → b ≤ s + k → Imaged τ b l
-  halves-meet b meet all = record { at = λ d q. ⊎-elim (λ p. a .low d p) (λ p. upper d (omega arith) (omega arith)) (lt-or-ge d k) }
+  pub halves-meet : (b : ℕ) → s ≤ k → b ≤ s + k → Begins τ b l
+  halves-meet b meet all = record { at = λ d q. ⊎-elim (λ p. a .low .at d p) (λ p. upper d (omega arith) (omega arith)) (lt-or-ge d k) }
 
   -- halves with one place between them want its entry
-  pub halves-centre : {b c v : ℕ} → c ≡ k → s ≡ c + 1 → b ≤ s + k → c < length l → v ≡ τ c → Imaged τ b (set l c v)
+  pub halves-centre : {b c v : ℕ} → c ≡ k → s ≡ c + 1 → b ≤ s + k → c < length l → v ≡ τ c → Begins τ b (set l c v)
   halves-centre {b} {c} {v} mid gap all room e = record {
     at = λ d q. ⊎-elim (λ p. here d p) (λ f. getD-set-other l c d v 0 f ∙ aside d q f) (eq-or-ne d c);
   }
     where
-      here : (d : ℕ) → d ≡ c → imageIn (set l c v) d ≡ τ d
+      here : (d : ℕ) → d ≡ c → getD (set l c v) d 0 ≡ τ d
       here d p = rw p (getD-set-same l c v 0 room ∙ e)
 
-      aside : (d : ℕ) → d < b → (d ≡ c → ⊥) → imageIn l d ≡ τ d
-      aside d q f = ⊎-elim (λ p. a .low d p) (λ p. upper d (omega arith) (omega arith)) (lt-or-ge d k)
+      aside : (d : ℕ) → d < b → (d ≡ c → ⊥) → getD l d 0 ≡ τ d
+      aside d q f = ⊎-elim (λ p. a .low .at d p) (λ p. upper d (omega arith) (omega arith)) (lt-or-ge d k)

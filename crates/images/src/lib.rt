@@ -3,14 +3,14 @@
 ghost use mathlib.Core.Path.{_≡_};
 ghost use Prim.Native.Nat.{_/_, _%_, _<_, _≤_};
 ghost use lib.ListN.{length};
+ghost use Rattle.numbers.specs.Listed.{Begins};
 ghost use Rattle.permutation.specs.Faure.{openGap, faure};
 ghost use Rattle.permutation.specs.Families.{imageOf};
-ghost use Rattle.images.specs.Images.{Imaged};
 
 // The digits of base `b`, each itself, in the front of `l`.
 fn plain_images(b: usize, l: &mut [u8])
     requires { ⌜ (b ≤ 256) × (256 ≤ length (now l)) ⌝ }
-    ensures { λ r. ⌜ Imaged (imageOf 0 b) b (now (l .exit)) ⌝ }
+    ensures { λ r. ⌜ Begins (imageOf 0 b) b (now (l .exit)) ⌝ }
 {
     let mut d = 0;
     while d < b {
@@ -21,8 +21,8 @@ fn plain_images(b: usize, l: &mut [u8])
 
 // Makes the images of base b / 2 in `l` those of the even base `b`: twice each in the lower half, and one more in the upper.
 fn even_images(b: usize, l: &mut [u8])
-    requires { ⌜ (4 ≤ b) × (b ≤ 256) × (b % 2 ≡ 0) × (256 ≤ length (now l)) × Imaged (faure (b / 2)) (b / 2) (now l) ⌝ }
-    ensures { λ r. ⌜ Imaged (faure b) b (now (l .exit)) ⌝ }
+    requires { ⌜ (4 ≤ b) × (b ≤ 256) × (b % 2 ≡ 0) × (256 ≤ length (now l)) × Begins (faure (b / 2)) (b / 2) (now l) ⌝ }
+    ensures { λ r. ⌜ Begins (faure b) b (now (l .exit)) ⌝ }
 {
     let h = b / 2;
     let mut k = 0;
@@ -45,8 +45,8 @@ fn raise(c: u8, x: u8) -> u8
 
 // Makes the images of base b / 2 in `l` those of the odd base `b`: the even rule, then the odd, which puts the centre between the halves.
 fn odd_images(b: usize, l: &mut [u8])
-    requires { ⌜ (5 ≤ b) × (b ≤ 256) × (b % 2 ≡ 1) × (256 ≤ length (now l)) × Imaged (faure (b / 2)) (b / 2) (now l) ⌝ }
-    ensures { λ r. ⌜ Imaged (faure b) b (now (l .exit)) ⌝ }
+    requires { ⌜ (5 ≤ b) × (b ≤ 256) × (b % 2 ≡ 1) × (256 ≤ length (now l)) × Begins (faure (b / 2)) (b / 2) (now l) ⌝ }
+    ensures { λ r. ⌜ Begins (faure b) b (now (l .exit)) ⌝ }
 {
     let c = b / 2;
     let mut k = 0;
@@ -64,7 +64,7 @@ fn odd_images(b: usize, l: &mut [u8])
 // Faure's images of the digits of base `b`, in the front of `l`. Bases 2 and 3 keep their digits.
 fn faure_images(b: usize, l: &mut [u8])
     requires { ⌜ (2 ≤ b) × (b ≤ 256) × (256 ≤ length (now l)) ⌝ }
-    ensures { λ r. ⌜ Imaged (faure b) b (now (l .exit)) ⌝ }
+    ensures { λ r. ⌜ Begins (faure b) b (now (l .exit)) ⌝ }
 {
     if b < 4 {
         plain_images(b, l);
@@ -81,7 +81,7 @@ fn faure_images(b: usize, l: &mut [u8])
 // The images of the digits of base `b` in a plan of this family, in the front of `l`.
 pub fn images(family: u64, b: u64, l: &mut [u8])
     requires { ⌜ (2 ≤ b) × (b ≤ 256) × (256 ≤ length (now l)) ⌝ }
-    ensures { λ r. ⌜ Imaged (imageOf family b) b (now (l .exit)) ⌝ }
+    ensures { λ r. ⌜ Begins (imageOf family b) b (now (l .exit)) ⌝ }
 {
     if family == 1 {
         faure_images(b as usize, l);

@@ -60,8 +60,8 @@ pub fn second(s: Sampler, n: u64) -> SecondOfDay
     }
     let bases = s.bases;
     let directions = s.directions;
-    let x = points::numerator(s.family, s.axes, &bases, &directions, n, 0);
-    let d = points::denominator(s.family, s.axes, &bases, &directions, 0);
+    let x = points::numerator(s.family, &bases, &directions, n, 0);
+    let d = points::denominator(s.family, &bases, 0);
     SecondOfDay {
         code: 0,
         second: second_of(x, d),

@@ -14,7 +14,7 @@ use Rattle.numbers.proofs.Cases.{lt-iff}
 use Rattle.numbers.proofs.CountLaws.{count-ext, count-parts}
 use Rattle.marks.specs.Marking.{Marked}
 use Rattle.sobol_tables.specs.Tables.{Directions}
-use Rattle.points.specs.Arrays.{numeratorAt, numeratorFrom, denominatorAt, Arrays}
+use Rattle.points.specs.Arrays.{numeratorAt, numeratorFrom, denominatorAt, AxisAt}
 use Rattle.points.proofs.ArrayLaws.{numerator-at-lt, numerator-by-part, denominator-by-two}
 use Rattle.window.specs.Counting.{cutAt}
 use Rattle.window.specs.Walking.{axisInsideBy, insideFrom}
@@ -23,11 +23,11 @@ use Rattle.inside_count.specs.Flagging.{cutLimit, Flags}
 -- ---- the direction numbers of an axis
 
 -- the code's part of the array has 32 of them, and every point by them is below the denominator
-pub directions-of : {family axes : ℕ} {bases vs : List ℕ} → Arrays family axes bases vs → (i : ℕ) → i < axes → family ≡ 2
+pub directions-of : {family : ℕ} {bases vs : List ℕ} {i : ℕ} → AxisAt family bases vs i → family ≡ 2
     → length (take (32 * i + 32 - 32 * i) (drop (32 * i) vs)) ≡ 32 → Directions (take (32 * i + 32 - 32 * i) (drop (32 * i) vs))
-directions-of {family} {axes} {bases} {vs} a i h e k = record {
+directions-of {family} {bases} {vs} {i} a e k = record {
   long = k;
-  low = λ n. omega (arith, numerator-at-lt a i h n, numerator-by-part family bases vs n i e, denominator-by-two family bases i e);
+  low = λ n. omega (arith, numerator-at-lt a n, numerator-by-part family bases vs n i e, denominator-by-two family bases i e);
 }
 
 -- ---- flags

@@ -4,7 +4,7 @@ ghost use mathlib.Core.Bool.{Bool};
 ghost use Prim.Native.Nat.{ℕ, _+_, _*_, _^_, _<_, _≤_};
 ghost use lib.ListN.{length};
 ghost use Rattle.numbers.specs.Count.{count};
-ghost use Rattle.points.specs.Arrays.{numeratorFrom, Arrays};
+ghost use Rattle.points.specs.Arrays.{numeratorFrom, AxisAt, Arrays};
 ghost use Rattle.marks.specs.Marking.{Marked};
 ghost use Rattle.window.specs.Walking.{insideFrom, Room};
 ghost use Rattle.inside_count.specs.Flagging.{cutLimit, Flags};
@@ -20,7 +20,6 @@ fn cut_limit(u: u64, q: u64, d: u64) -> u64
 // Clears the flags of those of the first `m` points from index `n` on that are not below `limit` on axis `i`.
 fn mark_axis(
     family: u64,
-    axes: usize,
     bases: &[u64],
     directions: &[u64],
     i: usize,
@@ -29,7 +28,7 @@ fn mark_axis(
     limit: u64,
     l: &mut [u8],
 )
-    requires { ⌜ Arrays family axes (now bases) (now directions) × (i < axes) × (n + m ≤ 2 ^ 32) × (m ≤ length (now l)) ⌝ }
+    requires { ⌜ AxisAt family (now bases) (now directions) i × (n + m ≤ 2 ^ 32) × (m ≤ length (now l)) ⌝ }
     ensures { λ r. ⌜ Marked (numeratorFrom family (now (bases .entry)) (now (directions .entry)) n i) limit 0 m (now (l .entry)) (now (l .exit)) ⌝ }
 {
     if family == 2 {
@@ -71,9 +70,9 @@ fn count_part(
     let mut l = [1u8; 4096];
     let mut i = 0;
     while i < axes {
-        let d = points::denominator(family, axes, bases, directions, i);
+        let d = points::denominator(family, bases, i);
         let limit = cut_limit(w[2 * i], w[2 * i + 1], d);
-        mark_axis(family, axes, bases, directions, i, n, m, limit, &mut l);
+        mark_axis(family, bases, directions, i, n, m, limit, &mut l);
         i += 1;
     }
     total(&l, m)

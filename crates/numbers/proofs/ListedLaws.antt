@@ -1,4 +1,4 @@
--- Runs of values, and lists with zeros after them: their lengths and entries, and what one more store makes of them. Assumes nothing.
+-- Runs of values, lists that begin with them, and zeros after them: lengths and entries, and what one more store makes of them. Assumes nothing.
 use mathlib.Core.Path.{_≡_, refl, sym, ap, ap₂, _∙_}
 use mathlib.Core.List.{List, [], _∷_, _++_}
 use mathlib.Core.Logic.{⊎-elim}
@@ -7,8 +7,8 @@ use native.Mathlib.Nat.{sub-zero}
 use native.Mathlib.Omega.{arith}
 use native.Mathlib.Numerals.{add-one}
 use lib.ListN.{length, getD, take, set, replicate, length-append, length-set, length-replicate, getD-replicate, List·getD-append, List·getD-eq-default}
-use lib.Seq.{length-take-le, getD-take, getD-at, getD-append-add, getD-set-same, getD-set-other, set-at, append-snoc, take-at, ext-getD}
-use Rattle.numbers.specs.Listed.{listed, padded}
+use lib.Seq.{getD-at, getD-append-add, getD-set-same, getD-set-other, set-at, append-snoc, take-at, ext-getD}
+use Rattle.numbers.specs.Listed.{listed, Begins, padded}
 use Rattle.numbers.proofs.Cases.{lt-or-ge}
 
 -- ---- runs
@@ -32,17 +32,36 @@ module _ (f : ℕ → ℕ) where
   unfolding listed
   listed-more m = rw add-one refl
 
-  pub listed-take : (m k : ℕ) → k ≤ m → take k (listed f m) ≡ listed f k
-  listed-take m k h =
-      let long : length (take k (listed f m)) ≡ k = length-take-le k (listed f m) (omega (arith, listed-length m)) in
-      ext-getD 0 _ _ (long ∙ sym (listed-length k))
-      (λ i l. getD-take k (listed f m) i 0 (omega arith) ∙ listed-at m i (omega arith) ∙ sym (listed-at k i (omega arith)))
-
 pub listed-same : (f g : ℕ → ℕ) (m : ℕ) → ((i : ℕ) → i < m → f i ≡ g i) → listed f m ≡ listed g m
 unfolding listed
 listed-same f g zero h = refl
 listed-same f g (suc m) h =
     ap₂ (λ (l : List ℕ) (x : ℕ). l ++ (x ∷ [])) (listed-same f g m (λ i l. h i (omega arith))) (h m (omega arith))
+
+-- ---- a list that begins with a run
+
+pub begins-none : (f : ℕ → ℕ) (l : List ℕ) → Begins f 0 l
+begins-none f l = record { at = λ i h. absurd (omega arith) }
+
+module _ {f : ℕ → ℕ} {n : ℕ} {l : List ℕ} (a : Begins f n l) where
+  -- one store more
+  pub begins-more : {x : ℕ} → n < length l → x ≡ f n → Begins f (n + 1) (set l n x)
+  begins-more {x} h e = record { at = λ i b. ⊎-elim (λ q. getD-set-other l n i x 0 (omega arith) ∙ a .at i q) (λ q. here i (omega arith)) (lt-or-ge i n) }
+    where
+      here : (i : ℕ) → i ≡ n → getD (set l n x) i 0 ≡ f i
+      here i q = rw q (getD-set-same l n x 0 h ∙ e)
+
+  -- a store behind the run
+  pub begins-kept : (p x : ℕ) → n ≤ p → Begins f n (set l p x)
+  begins-kept p x h = record { at = λ i b. getD-set-other l p i x 0 (omega arith) ∙ a .at i b }
+
+  -- fewer of them
+  pub begins-less : (m : ℕ) → m ≤ n → Begins f m l
+  begins-less m h = record { at = λ i b. a .at i (omega arith) }
+
+  -- under another name
+  pub begins-as : (g : ℕ → ℕ) → ((i : ℕ) → i < n → f i ≡ g i) → Begins g n l
+  begins-as g e = record { at = λ i b. a .at i b ∙ e i b }
 
 -- ---- zeros after a list
 
@@ -89,7 +108,7 @@ pub listed-store : (n : ℕ) (f : ℕ → ℕ) (i x : ℕ) → i < n → x ≡ f
 listed-store n f i x h e = padded-store n (listed f i) i x (listed-length f i) h ∙ ap (padded n) (rw (e, listed-more) refl)
 
 -- entries f 0 to f (m - 1) and then zeros determine the list
-pub padded-by-entries : (n : ℕ) (f : ℕ → ℕ) (m : ℕ) (l : List ℕ) → m ≤ n → length l ≡ n → ((i : ℕ) → i < m → getD l i 0 ≡ f i)
+pub padded-by-entries : (n : ℕ) (f : ℕ → ℕ) (m : ℕ) (l : List ℕ) → m ≤ n → length l ≡ n → Begins f m l
     → ((i : ℕ) → m ≤ i → getD l i 0 ≡ 0) → l ≡ padded n (listed f m)
 padded-by-entries n f m l h long front rest =
     ext-getD 0 l (padded n (listed f m)) (long ∙ sym (padded-length n (listed f m) (omega (arith, listed-length f m))))
@@ -97,7 +116,7 @@ padded-by-entries n f m l h long front rest =
   where
     same : (i : ℕ) → getD l i 0 ≡ getD (listed f m) i 0
     same i =
-        ⊎-elim (λ q. front i q ∙ sym (listed-at f m i q))
+        ⊎-elim (λ q. front .at i q ∙ sym (listed-at f m i q))
         (λ q. rest i q ∙ sym (List·getD-eq-default (listed f m) 0 (omega (arith, listed-length f m)))) (lt-or-ge i m)
 
 -- ---- a list that is written over from the front
@@ -105,19 +124,17 @@ padded-by-entries n f m l h long front rest =
 -- l is old, but with g 0 to g (i - 1) in front
 pub record Over (g : ℕ → ℕ) (old l : List ℕ) (i : ℕ) : Type 0 where
   pub long : length l ≡ length old
-  pub front : (j : ℕ) → j < i → getD l j 0 ≡ g j
+  pub front : Begins g i l
   pub rest : (j : ℕ) → i ≤ j → getD l j 0 ≡ getD old j 0
 
 pub over-none : (g : ℕ → ℕ) (old : List ℕ) → Over g old old 0
-over-none g old = record { long = refl; front = λ j h. absurd (omega arith); rest = λ j h. refl }
+over-none g old = record { long = refl; front = begins-none g old; rest = λ j h. refl }
 
 pub over-store : (g : ℕ → ℕ) (old l : List ℕ) (i x : ℕ) → Over g old l i → i < length old → x ≡ g i → Over g old (set l i x) (i + 1)
 over-store g old l i x o h e =
     record {
       long = length-set l i x ∙ o .long;
-      front = λ j b.
-          ⊎-elim (λ q. getD-set-other l i j x 0 (omega arith) ∙ o .front j q)
-          (λ q. let s : j ≡ i = omega arith in rw s (getD-set-same l i x 0 (omega (arith, o .long)) ∙ e)) (lt-or-ge j i);
+      front = begins-more (o .front) (omega (arith, o .long)) e;
       rest = λ j b. getD-set-other l i j x 0 (omega arith) ∙ o .rest j (omega arith);
     }
 

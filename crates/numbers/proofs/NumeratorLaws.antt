@@ -2,10 +2,10 @@
 -- Assumes nothing.
 use mathlib.Core.Path.{_≡_, refl, sym, ap, ap₂, _∙_}
 use Prim.Native.Nat.{ℕ, zero, suc, _+_, _-_, _*_, _/_, _%_, _^_, _<_}
-use native.Mathlib.Nat.{pow-zero, pow-suc, mod-lt, mul-assoc, mul-comm, mul-one, add-mul, add-assoc, add-zero, add-suc, zero-mul, zero-mod, zero-div, div-one, div-div-eq-div-mul, div-add-mod', mul-add-mod-self-right, mul-add-div-right}
-use native.Mathlib.Numerals.{add-one, suc-eq-add-one}
+use native.Mathlib.Nat.{pow-zero, mod-lt, mul-assoc, mul-comm, mul-one, add-mul, add-assoc, zero-mul, zero-mod, zero-div, div-div-eq-div-mul, mul-add-mod-self-right, mul-add-div-right}
+use native.Mathlib.Numerals.{suc-eq-add-one}
 use native.Mathlib.Omega.{arith}
-use lib.Arith.{digits-lt, digits-div}
+use lib.Arith.{digits-lt}
 use Rattle.numbers.specs.Digits.{digit, sum, term, numeratorTo}
 use Rattle.numbers.proofs.DigitLaws.{pow-one-more, quotient-none, sum-ext, sum-times, sum-one-more}
 
@@ -72,15 +72,6 @@ module _ (σ : ℕ → ℕ) (b : ℕ) where
     numerator-lt (suc k) n =
         rw (suc-eq-add-one k, numerator-last k n, pow-one-more b k) (digits-lt (numerator-lt k n) (digit-image-below n k))
 
-    -- the first m digits of a numerator of m + j digits are the numerator of m digits
-    pub numerator-lead : (m j n : ℕ) → numeratorTo σ b (m + j) n / b ^ j ≡ numeratorTo σ b m n
-    numerator-lead m zero n = ap₂ (λ (x p : ℕ). numeratorTo σ b x n / p) (add-zero m) (pow-zero b) ∙ div-one _
-    numerator-lead m (suc j) n =
-        ap₂ (λ (x p : ℕ). numeratorTo σ b x n / p) (add-suc m j ∙ sym (add-one (m + j))) (pow-suc b j ∙ mul-comm (b ^ j) b)
-        ∙ sym (div-div-eq-div-mul _ b (b ^ j))
-        ∙ ap (λ (x : ℕ). x / b ^ j) (ap (λ (x : ℕ). x / b) (numerator-last (m + j) n) ∙ digits-div _ (digit-image-below n (m + j)))
-        ∙ numerator-lead m j n
-
   -- ---- a numerator of k digits looks at k digits only
 
   pub numerator-low : 0 < b → (k q r : ℕ) → numeratorTo σ b k (q * b ^ k + r) ≡ numeratorTo σ b k r
@@ -96,10 +87,6 @@ module _ (σ : ℕ → ℕ) (b : ℕ) where
     where
       shape : q * b ^ (k + 1) + r ≡ q * b ^ k * b + r
       shape = ap (λ (x : ℕ). x + r) (ap (λ (x : ℕ). q * x) (pow-one-more b k) ∙ sym (mul-assoc q (b ^ k) b))
-
-  -- it depends on the index's class modulo b ^ k alone
-  pub numerator-class : 0 < b → (k n : ℕ) → numeratorTo σ b k n ≡ numeratorTo σ b k (n % b ^ k)
-  numerator-class pos k n = ap (numeratorTo σ b k) (sym (div-add-mod' n (b ^ k))) ∙ numerator-low pos k (n / b ^ k) (n % b ^ k)
 
 -- two maps that agree on the digits
 pub numerator-ext : (σ τ : ℕ → ℕ) (b k n : ℕ) → 0 < b → ((d : ℕ) → d < b → σ d ≡ τ d) → numeratorTo σ b k n ≡ numeratorTo τ b k n

@@ -1,9 +1,9 @@
-// Number theory that every axis rests on: Euclid's rule, digits, powers, the depth of a base.
+// Number theory that every axis rests on: Euclid's rule, digits, powers, the denominator of a base.
 ghost use mathlib.Core.Path.{_≡_};
 ghost use Prim.Native.Nat.{_^_, _<_, _≤_, _+_, _/_};
 ghost use Rattle.numbers.specs.Gcd.{gcd};
 ghost use Rattle.numbers.specs.Digits.{digitCount};
-ghost use Rattle.numbers.specs.Depth.{depth, denominator};
+ghost use Rattle.numbers.specs.Depth.{denominator};
 
 // How many indexes there are, 2^32: an index lies below it, and a run's start + count is at most this.
 pub const INDEXES: u64 = 4294967296;
@@ -48,14 +48,6 @@ pub fn power(b: u64, k: u64) -> u64
         i = i + 1;
     }
     p
-}
-
-// The depth of base `b`: the least number of digits that every index fits in.
-pub fn depth(b: u64) -> u64
-    requires { ⌜ 2 ≤ b ⌝ }
-    ensures { λ r. ⌜ r ≡ depth b ⌝ }
-{
-    digit_count(b, 4294967295)
 }
 
 // The denominator of an axis of base `b`, by multiplications alone: the least power of `b` at or above 2^32.

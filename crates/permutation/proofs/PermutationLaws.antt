@@ -1,4 +1,4 @@
--- Permutations of digits: the identity, injectivity, and that the numerators of k digits are themselves a permutation. Assumes nothing.
+-- Permutations of digits: the identity, and that the numerators of k digits are themselves a permutation. Assumes nothing.
 use mathlib.Core.Path.{_≡_, refl, sym, ap, ap₂, _∙_, subst, fun-ext}
 use Prim.Native.Nat.{ℕ, zero, suc, _+_, _*_, _/_, _%_, _^_, _<_}
 use native.Mathlib.Nat.{mod-lt, mod-eq-of-lt, div-lt-iff-lt-mul, pow-zero, pow-suc, div-add-mod'}
@@ -22,10 +22,6 @@ identity-permutes b =
 -- equal maps
 pub permutes-same : {b : ℕ} {σ ρ : ℕ → ℕ} → ((k : ℕ) → σ k ≡ ρ k) → Permutes b ρ → Permutes b σ
 permutes-same {b} e p = subst (λ (f : ℕ → ℕ). Permutes b f) (fun-ext (λ k. sym (e k))) p
-
--- a permutation takes no two digits to one
-pub injective : {b : ℕ} {σ : ℕ → ℕ} → Permutes b σ → (j k : ℕ) → j < b → k < b → σ j ≡ σ k → j ≡ k
-injective p j k lj lk e = sym (p .back j lj) ∙ ap (p .inverse) e ∙ p .back k lk
 
 -- ---- the numerators under σ are undone by the numerators under its inverse τ
 

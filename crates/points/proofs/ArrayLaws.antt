@@ -14,15 +14,15 @@ use Rattle.numbers.proofs.Cases.{lt-or-ge, eq-or-ne}
 use Rattle.numbers.proofs.DepthLaws.{denominator-lt}
 use Rattle.numbers.proofs.ListedLaws.{padded-length, padded-at, zeros-at, listed-same}
 use Rattle.permutation.specs.Families.{imageOf}
-use Rattle.permutation.proofs.FamilyLaws.{image-permutes}
 use Rattle.halton.specs.Axis.{numerator}
+use Rattle.halton.proofs.ImageLaws.{image-digits}
 use Rattle.halton.proofs.AxisLaws.{numerator-below}
 use Rattle.sobol.specs.Stepping.{stepped}
 use Rattle.sobol.proofs.DirectionLaws.{directions-length}
 use Rattle.sobol.proofs.SteppingLaws.{stepped-lt}
 use Rattle.plan.specs.Plan.{Axis, noAxis, ValidAxis, Plan, halton, sobol, Valid}
 use Rattle.points.specs.Point.{axisCount, axisDirections, denominatorOf, numeratorOf, pointOf}
-use Rattle.points.specs.Arrays.{familyOf, basesArray, directionsIn, directionsArray, directionsAt, numeratorBy, numeratorAt, pointAt, denominatorBy, denominatorAt, Arrays}
+use Rattle.points.specs.Arrays.{familyOf, basesArray, directionsIn, directionsArray, directionsAt, numeratorBy, numeratorAt, pointAt, denominatorBy, denominatorAt, BaseAt, AxisAt, Arrays}
 use Rattle.points.proofs.PointLaws.{axis-directions-lt}
 
 -- ---- the direction numbers of several axes
@@ -92,6 +92,14 @@ part-lt : (m : ℕ) (l : List ℕ) → ((j : ℕ) → getD l j 0 < 2 ^ 32) → (
 part-lt m l h j =
     ⊎-elim (λ k. rw (getD-take m l j 0 k) (h j)) (λ k. omega (arith, List·getD-eq-default (take m l) 0 {n = j} (omega (arith, length-take m l, min-le-left m (length l))))) (lt-or-ge j m)
 
+-- the arrays at one axis
+pub axis-at : {family axes : ℕ} {bases vs : List ℕ} → Arrays family axes bases vs → (i : ℕ) → i < axes → AxisAt family bases vs i
+axis-at a i h = record {
+  base = record { reach = omega (arith, a .few, a .bases-long); low = a .base-low i h; high = a .base-high i h };
+  reach = omega (arith, a .few, a .directions-long);
+  directions-low = a .directions-low;
+}
+
 pub base-range : {family axes : ℕ} {bases vs : List ℕ} → Arrays family axes bases vs → (i : ℕ) → i < axes → (family ≡ 2 → ⊥)
     → (2 ≤ getD bases i 0) × (getD bases i 0 ≤ 256)
 base-range a i h f = (a .base-low i h f, a .base-high i h f)
@@ -117,19 +125,19 @@ pub denominator-by-base : (family : ℕ) (bases : List ℕ) (i : ℕ) → (famil
 unfolding denominatorAt denominatorBy
 denominator-by-base family bases i f = rw (ne-eqb family 2 f)
 
-module _ {family axes : ℕ} {bases vs : List ℕ} (a : Arrays family axes bases vs) (i : ℕ) (h : i < axes) where
-  pub denominator-at-lt : denominatorAt family bases i < 2 ^ 40
-  denominator-at-lt =
-      ⊎-elim
-      (λ e. omega (arith, denominator-by-two family bases i e))
-      (λ f. let r = base-range a i h f in omega (arith, denominator-by-base family bases i f, denominator-lt (getD bases i 0) (r .0) (r .1)))
-      (eq-or-ne family 2)
+pub denominator-at-lt : {family : ℕ} {bases : List ℕ} {i : ℕ} → BaseAt family bases i → denominatorAt family bases i < 2 ^ 40
+denominator-at-lt {family} {bases} {i} a =
+    ⊎-elim
+    (λ e. omega (arith, denominator-by-two family bases i e))
+    (λ f. omega (arith, denominator-by-base family bases i f, denominator-lt (getD bases i 0) (a .low f) (a .high f)))
+    (eq-or-ne family 2)
 
+module _ {family : ℕ} {bases vs : List ℕ} {i : ℕ} (a : AxisAt family bases vs i) where
   pub numerator-at-lt : (n : ℕ) → numeratorAt family bases vs n i < denominatorAt family bases i
   numerator-at-lt n =
       ⊎-elim
       (λ e. rw (← numerator-by-part family bases vs n i e, ← denominator-by-two family bases i e) (stepped-lt 32 _ part-low n))
-      (λ f. rw (← numerator-by-base family bases vs n i f, ← denominator-by-base family bases i f) (numerator-below (image-permutes family (getD bases i 0) (a .base-low i h f)) (omega (arith, a .base-low i h f)) n))
+      (λ f. rw (← numerator-by-base family bases vs n i f, ← denominator-by-base family bases i f) (numerator-below (image-digits family (getD bases i 0) (a .base .low f)) (omega (arith, a .base .low f)) n))
       (eq-or-ne family 2)
     where
       part-low : (j : ℕ) → getD (take (32 * i + 32 - 32 * i) (drop (32 * i) vs)) j 0 < 2 ^ 32

@@ -5,7 +5,7 @@ use native.Mathlib.Omega.{arith}
 use lib.ListN.{length, getD}
 use Rattle.numbers.proofs.DepthLaws.{denominator-lt}
 use Rattle.numbers.proofs.ListedLaws.{listed-length}
-use Rattle.permutation.proofs.FamilyLaws.{image-permutes}
+use Rattle.halton.proofs.ImageLaws.{image-digits}
 use Rattle.halton.proofs.AxisLaws.{numerator-below}
 use Rattle.sobol.proofs.DirectionLaws.{directions-lt}
 use Rattle.sobol.proofs.SteppingLaws.{stepped-lt}
@@ -31,7 +31,7 @@ pub numerator-of-lt : (p : Plan) → Valid p → (n i : ℕ) → i < axisCount p
 unfolding Valid axisCount denominatorOf numeratorOf
 numerator-of-lt (halton family bases) v n i h =
     let l = v .2 .low i h in
-    numerator-below (image-permutes family (getD bases i 0) l) (omega arith) n
+    numerator-below (image-digits family (getD bases i 0) l) (omega arith) n
 numerator-of-lt (sobol axes) v n i h =
     let x = getD axes i noAxis in
     stepped-lt 32 (axisDirections x) (axis-directions-lt x (v .1 .valid i h)) n

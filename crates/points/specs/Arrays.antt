@@ -72,6 +72,18 @@ denominatorBy false bases i = denominator (getD bases i 0)
 unfoldable pub denominatorAt : ℕ → List ℕ → ℕ → ℕ
 denominatorAt family bases i = denominatorBy (eqb family 2) bases i
 
+-- what the functions on one axis ask of the bases: axis i has one, from 2 to 256 in a Halton plan
+pub record BaseAt (family : ℕ) (bases : List ℕ) (i : ℕ) : Type 0 where
+  pub reach : i < length bases
+  pub low : (family ≡ 2 → ⊥) → 2 ≤ getD bases i 0
+  pub high : (family ≡ 2 → ⊥) → getD bases i 0 ≤ 256
+
+-- and of both arrays: axis i has its 32 direction numbers too, below 2^32
+pub record AxisAt (family : ℕ) (bases vs : List ℕ) (i : ℕ) : Type 0 where
+  pub base : BaseAt family bases i
+  pub reach : 32 * i + 32 ≤ length vs
+  pub directions-low : (j : ℕ) → getD vs j 0 < 2 ^ 32
+
 -- what the functions on arrays ask: the arrays' lengths, bases from 2 to 256 in a Halton plan, direction numbers below 2^32
 pub record Arrays (family axes : ℕ) (bases vs : List ℕ) : Type 0 where
   pub few : axes ≤ 6

@@ -2,7 +2,7 @@
 ghost use mathlib.Core.Path.{_≡_};
 ghost use Prim.Native.Nat.{_+_, _^_, _<_, _≤_};
 ghost use Rattle.points.specs.Run.{runOf, inRange};
-ghost use Rattle.points.specs.Arrays.{numeratorAt, pointAt, denominatorAt, Arrays};
+ghost use Rattle.points.specs.Arrays.{numeratorAt, pointAt, denominatorAt, BaseAt, AxisAt, Arrays};
 
 // Whether a run is permitted: start + count is at most 2^32.
 pub fn in_range(start: u64, count: u64) -> bool
@@ -15,15 +15,8 @@ pub fn in_range(start: u64, count: u64) -> bool
 }
 
 // The numerator of index `n` on axis `i`, by a jump.
-pub fn numerator(
-    family: u64,
-    axes: usize,
-    bases: &[u64],
-    directions: &[u64],
-    n: u64,
-    i: usize,
-) -> u64
-    requires { ⌜ Arrays family axes (now bases) (now directions) × (n < 2 ^ 32) × (i < axes) ⌝ }
+pub fn numerator(family: u64, bases: &[u64], directions: &[u64], n: u64, i: usize) -> u64
+    requires { ⌜ AxisAt family (now bases) (now directions) i × (n < 2 ^ 32) ⌝ }
     ensures { λ r. ⌜ r ≡ numeratorAt family (now (bases .entry)) (now (directions .entry)) n i ⌝ }
 {
     if family == 2 {
@@ -31,21 +24,13 @@ pub fn numerator(
         let to = from + 32;
         return sobol::jump(&directions[from..to], n);
     }
-    let x = halton::jump(family, bases[i], n);
+    let x = halton::jump(family, bases[i], &[], n);
     x.numerator
 }
 
 // The numerator of index `n + 1` on axis `i`, by a step from that of index `n`, which is `x`.
-fn next_numerator(
-    family: u64,
-    axes: usize,
-    bases: &[u64],
-    directions: &[u64],
-    n: u64,
-    i: usize,
-    x: u64,
-) -> u64
-    requires { ⌜ Arrays family axes (now bases) (now directions) × (n + 1 < 2 ^ 32) × (i < axes) × (x ≡ numeratorAt family (now bases) (now directions) n i) ⌝ }
+fn next_numerator(family: u64, bases: &[u64], directions: &[u64], n: u64, i: usize, x: u64) -> u64
+    requires { ⌜ AxisAt family (now bases) (now directions) i × (n + 1 < 2 ^ 32) × (x ≡ numeratorAt family (now bases) (now directions) n i) ⌝ }
     ensures { λ r. ⌜ r ≡ numeratorAt family (now (bases .entry)) (now (directions .entry)) (n + 1) i ⌝ }
 {
     if family == 2 {
@@ -58,8 +43,8 @@ fn next_numerator(
 }
 
 // The denominator of axis `i`.
-pub fn denominator(family: u64, axes: usize, bases: &[u64], directions: &[u64], i: usize) -> u64
-    requires { ⌜ Arrays family axes (now bases) (now directions) × (i < axes) ⌝ }
+pub fn denominator(family: u64, bases: &[u64], i: usize) -> u64
+    requires { ⌜ BaseAt family (now bases) i ⌝ }
     ensures { λ r. ⌜ r ≡ denominatorAt family (now (bases .entry)) i ⌝ }
 {
     if family == 2 {
@@ -76,7 +61,7 @@ pub fn point(family: u64, axes: usize, bases: &[u64], directions: &[u64], n: u64
     let mut x = [0u64; 6];
     let mut i = 0;
     while i < axes {
-        let y = numerator(family, axes, bases, directions, n, i);
+        let y = numerator(family, bases, directions, n, i);
         x[i] = y;
         i += 1;
     }
@@ -98,7 +83,7 @@ pub fn advance(
     let mut y = x;
     let mut i = 0;
     while i < axes {
-        let z = next_numerator(family, axes, bases, directions, n, i, y[i]);
+        let z = next_numerator(family, bases, directions, n, i, y[i]);
         y[i] = z;
         i += 1;
     }

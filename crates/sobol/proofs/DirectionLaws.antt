@@ -10,7 +10,7 @@ use native.Mathlib.Numerals.{add-one}
 use native.Mathlib.Nat.{not-suc-le-zero, le-refl, lt-of-lt-of-le, zero-add, add-zero, zero-mul}
 use lib.Pow.{pow-pos, pow-mono, shl-lt, shl-exact}
 use lib.ListN.{length, getD, take, set, length-append, List·getD-append, List·getD-eq-default}
-use lib.Seq.{getD-at, getD-take, getD-set-same, getD-set-other, take-append-le, take-all, take-suc-set}
+use lib.Seq.{getD-at, getD-take, take-append-le, take-all, take-suc-set}
 use lib.Bits.{bitXor, bitAnd, xor-lt, xor-zero-r, shifted-even}
 use borrow.Author.Tests.{lt-ltb, le-ltb}
 use Rattle.binary.specs.Gf2.{times}
@@ -235,12 +235,3 @@ pub m-list-rule : (d p : ℕ) (given : List ℕ) (n i : ℕ) → d ≤ i → i <
 m-list-rule d p given n i h l =
     m-list-at d p given n i l ∙ sym (m-next-front d p given i (mList d p given n) (m-list-take d p given n i (omega arith)))
     ∙ m-next-rule d p given i (mList d p given n) h
-
--- ---- one turn of a loop that stores f i at i: a list that agrees with f below i then agrees below i + 1
-
-pub set-more : (f : ℕ → ℕ) (v : List ℕ) (i x : ℕ) → i < length v → x ≡ f i → ((k : ℕ) → k < i → getD v k 0 ≡ f k)
-    → (k : ℕ) → k < i + 1 → getD (set v i x) k 0 ≡ f k
-set-more f v i x h e before k l =
-    ⊎-elim (λ b. getD-set-other v i k x 0 (omega arith) ∙ before k b)
-    (λ b. let s : k ≡ i = omega arith in rw s (getD-set-same v i x 0 h ∙ e))
-    (lt-or-ge k i)

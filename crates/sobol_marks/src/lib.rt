@@ -2,14 +2,17 @@
 // xor the run's one number.
 ghost use Prim.Native.Nat.{_+_, _-_, _^_, _<_, _≤_};
 ghost use lib.ListN.{length};
-ghost use Rattle.sobol_tables.specs.Tables.{Directions, Table, xored};
+ghost use lib.Bits.{bitXor};
+ghost use Rattle.sobol.specs.Stepping.{stepped};
+ghost use Rattle.columns.specs.Tiles.{Table, runOf};
+ghost use Rattle.sobol_tables.specs.Tables.{Directions};
 ghost use Rattle.sobol_blocks.specs.Filling.{sobolFrom};
 ghost use Rattle.marks.specs.Marking.{Marked};
 
 // Tests the points `lo` to `hi`: the table's entries, from entry `r` on, each xor `base`.
 fn run(base: u32, t: &[u32], r: usize, lo: usize, hi: usize, limit: u32, l: &mut [u8])
     requires { ⌜ (lo ≤ hi) × (hi - lo + r ≤ length (now t)) × (hi ≤ length (now l)) ⌝ }
-    ensures { λ v. ⌜ Marked (xored base (now (t .entry)) lo r) limit lo hi (now (l .entry)) (now (l .exit)) ⌝ }
+    ensures { λ v. ⌜ Marked (runOf bitXor base (now (t .entry)) lo r) limit lo hi (now (l .entry)) (now (l .exit)) ⌝ }
 {
     let mut i = lo;
     while i < hi {
@@ -20,7 +23,7 @@ fn run(base: u32, t: &[u32], r: usize, lo: usize, hi: usize, limit: u32, l: &mut
 
 // Tests the first `m` points from index `n` on, a table's length at a time: `t` has the first `size` points by the direction numbers `v`.
 fn tiles(v: &[u64], size: usize, t: &[u32], n: u64, m: usize, limit: u32, l: &mut [u8])
-    requires { ⌜ Directions (now v) × (size ≤ 256) × (256 ≤ length (now t)) × Table (now v) size (now t) ⌝ }
+    requires { ⌜ Directions (now v) × (size ≤ 256) × (256 ≤ length (now t)) × Table (stepped (now v)) 2 size (now t) ⌝ }
     requires { ⌜ (n + m ≤ 2 ^ 32) × (m ≤ length (now l)) ⌝ }
     ensures { λ r. ⌜ Marked (sobolFrom (now (v .entry)) n) limit 0 m (now (l .entry)) (now (l .exit)) ⌝ }
 {

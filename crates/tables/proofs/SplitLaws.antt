@@ -12,6 +12,7 @@ use Rattle.numbers.specs.Depth.{depth, denominator}
 use Rattle.numbers.proofs.DigitLaws.{pow-pos, pow-one-more}
 use Rattle.numbers.proofs.NumeratorLaws.{numerator-none, numerator-first, numerator-zero}
 use Rattle.halton.specs.Axis.{numerator}
+use Rattle.columns.specs.Tiles.{Splits}
 
 times-cancel : (a c k : ℕ) → 0 < k → a * k ≡ c * k → a ≡ c
 times-cancel a c k l e = le-antisymm (le-of-mul-le-mul-right {k = k} (le-of-eq e) l) (le-of-mul-le-mul-right {k = k} (le-of-eq (sym e)) l)
@@ -54,9 +55,9 @@ module _ (σ : ℕ → ℕ) (b : ℕ) (z : σ 0 ≡ 0) (big : 2 ≤ b) where
       rw (suc-eq-add-one k, numerator-first σ b k (q * b ^ suc e + r), whole-first e q k, numerator-first σ b k r, low-mod e q r, low-div e q r, split-to e k q (r / b) lt)
       (omega arith)
 
-  pub numerator-split : (e q r : ℕ) → r < b ^ e → numerator σ b (q * b ^ e + r) ≡ numerator σ b (q * b ^ e) + numerator σ b r
+  pub numerator-splits : Splits _+_ (numerator σ b) b
   unfolding numerator
-  numerator-split e = split-to e (depth b)
+  numerator-splits = record { at = λ e. split-to e (depth b) }
 
   digit-to : (e k d w : ℕ) → d < b → w * b * b ^ e ≡ b ^ k → numeratorTo σ b k (d * b ^ e) ≡ σ d * w
   digit-to zero zero d w l h = absurd (not-one w b big (sym (mul-one (w * b)) ∙ ap (λ (x : ℕ). w * b * x) (sym (pow-zero b)) ∙ h ∙ pow-zero b))

@@ -1,36 +1,17 @@
-// Tables over one Halton axis: the images of its digits give the point of any index, and its first points.
+// Tables over one Halton axis: the images of its digits give its first points.
 ghost use mathlib.Core.Path.{_≡_};
 ghost use Prim.Native.Nat.{ℕ, _+_, _*_, _^_, _<_, _≤_};
 ghost use lib.ListN.{length, getD};
 ghost use Rattle.numbers.specs.Depth.{denominator};
-ghost use Rattle.images.specs.Images.{imageIn};
 ghost use Rattle.halton.specs.Axis.{numerator};
+ghost use Rattle.halton.specs.Images.{imageIn, DigitMap};
 ghost use Rattle.columns.specs.Rows.{Column};
-ghost use Rattle.tables.specs.Tables.{Images, Table, shifted};
-
-// The numerator of index `n` over the images `l`, by Horner's rule over the digits of `n`, lowest first. It divides by `b` once: where r × b is
-// below 2^32, r / b is r × (2^32 / b + 1) / 2^32.
-pub fn jump(b: u64, l: &[u8], n: u64) -> u64
-    requires { ⌜ (2 ≤ b) × (b ≤ 256) × (n < 2 ^ 32) × (256 ≤ length (now l)) × Images b (now l) ⌝ }
-    ensures { λ r. ⌜ r ≡ numerator (imageIn (now (l .entry))) b n ⌝ }
-{
-    let m = 4294967296 / b + 1;
-    let mut r = numbers::quotient(n, b, m);
-    let mut x = l[(n - r * b) as usize] as u64;
-    let mut p = b;
-    while p < 4294967296 {
-        let q = r * m / 4294967296;
-        x = x * b + (l[(r - q * b) as usize] as u64);
-        r = q;
-        p = p * b;
-    }
-    x
-}
+ghost use Rattle.columns.specs.Tiles.{Table, runOf};
 
 // The table of the first `b` points: the image of each digit, times the weight `w` of the last place.
 fn first_points(b: u64, l: &[u8], w: u64, t: &mut [u64])
-    requires { ⌜ (2 ≤ b) × (b ≤ 256) × (256 ≤ length (now l)) × Images b (now l) × (256 ≤ length (now t)) × (w * b ≡ denominator b) ⌝ }
-    ensures { λ r. ⌜ Table (imageIn (now (l .entry))) b b (now (t .exit)) × (length (now (t .exit)) ≡ length (now (t .entry))) ⌝ }
+    requires { ⌜ (2 ≤ b) × (b ≤ 256) × (256 ≤ length (now l)) × DigitMap b (imageIn (now l)) × (256 ≤ length (now t)) × (w * b ≡ denominator b) ⌝ }
+    ensures { λ r. ⌜ Table (numerator (imageIn (now (l .entry))) b) b b (now (t .exit)) × (length (now (t .exit)) ≡ length (now (t .entry))) ⌝ }
 {
     let end = b as usize;
     let mut d = 0;
@@ -43,7 +24,7 @@ fn first_points(b: u64, l: &[u8], w: u64, t: &mut [u64])
 // Writes `size` entries at `at`: the first `size` ones, each with `a` added.
 fn spread(a: u64, at: usize, size: usize, t: &mut [u64])
     requires { ⌜ (a < 2 ^ 40) × (size ≤ at) × (at + size ≤ length (now t)) × ((r : ℕ) → r < size → getD (now t) r 0 < 2 ^ 40) ⌝ }
-    ensures { λ r. ⌜ Column (shifted a (now (t .entry)) 0 0) 0 size 1 at (now (t .entry)) (now (t .exit)) ⌝ }
+    ensures { λ r. ⌜ Column (runOf _+_ a (now (t .entry)) 0 0) 0 size 1 at (now (t .entry)) (now (t .exit)) ⌝ }
 {
     let mut i = 0;
     while i < size {
@@ -54,9 +35,9 @@ fn spread(a: u64, at: usize, size: usize, t: &mut [u64])
 
 // Makes the table of the first `size` points one of `size` times `b`. `w` is the weight of the next digit.
 fn grow(b: u64, l: &[u8], w: u64, size: usize, t: &mut [u64])
-    requires { ⌜ (2 ≤ b) × (b ≤ 256) × (256 ≤ length (now l)) × Images b (now l) ⌝ }
-    requires { ⌜ (size * b ≤ 256) × (256 ≤ length (now t)) × (w * b * size ≡ denominator b) × Table (imageIn (now l)) b size (now t) ⌝ }
-    ensures { λ r. ⌜ Table (imageIn (now (l .entry))) b (size * b) (now (t .exit)) × (length (now (t .exit)) ≡ length (now (t .entry))) ⌝ }
+    requires { ⌜ (2 ≤ b) × (b ≤ 256) × (256 ≤ length (now l)) × DigitMap b (imageIn (now l)) ⌝ }
+    requires { ⌜ (size * b ≤ 256) × (256 ≤ length (now t)) × (w * b * size ≡ denominator b) × Table (numerator (imageIn (now l)) b) b size (now t) ⌝ }
+    ensures { λ r. ⌜ Table (numerator (imageIn (now (l .entry))) b) b (size * b) (now (t .exit)) × (length (now (t .exit)) ≡ length (now (t .entry))) ⌝ }
 {
     let mut d = 1;
     while d < b {
@@ -67,8 +48,8 @@ fn grow(b: u64, l: &[u8], w: u64, size: usize, t: &mut [u64])
 
 // The table of the first points of the axis: as many as the greatest power of `b` up to `limit`.
 pub fn table(b: u64, l: &[u8], limit: usize, t: &mut [u64]) -> usize
-    requires { ⌜ (2 ≤ b) × (b ≤ 256) × (256 ≤ length (now l)) × Images b (now l) × (256 ≤ length (now t)) × (b ≤ limit) × (limit ≤ 256) ⌝ }
-    ensures { λ r. ⌜ (r ≤ 256) × Table (imageIn (now (l .entry))) b r (now (t .exit)) ⌝ }
+    requires { ⌜ (2 ≤ b) × (b ≤ 256) × (256 ≤ length (now l)) × DigitMap b (imageIn (now l)) × (256 ≤ length (now t)) × (b ≤ limit) × (limit ≤ 256) ⌝ }
+    ensures { λ r. ⌜ (r ≤ 256) × Table (numerator (imageIn (now (l .entry))) b) b r (now (t .exit)) ⌝ }
 {
     let mut w = numbers::denominator(b) / b;
     first_points(b, l, w, t);

@@ -46,14 +46,14 @@ fn halton_agrees(family: u64, b: u64, n: u64, top: u64, bottom: u64) -> bool {
         return false;
     }
     let d = numbers::denominator(b);
-    let jumped = halton::jump(family, b, n);
+    let jumped = halton::jump(family, b, &[], n);
     if !same_fraction(jumped.numerator, d, top, bottom) {
         return false;
     }
     if n == 0 {
         return true;
     }
-    let before = halton::jump(family, b, n - 1);
+    let before = halton::jump(family, b, &[], n - 1);
     same_fraction(
         halton::step(family, b, d, n - 1, before.numerator),
         d,

@@ -1,65 +1,18 @@
--- The text by a plan's arrays is the plan's text, and every number in it is below 2^40. Assumes nothing.
-use mathlib.Core.Path.{_≡_, refl, ap, ap₂, _∙_}
-use mathlib.Core.Logic.{⊎-elim}
+-- The text by a plan's arrays is the plan's text. Assumes nothing.
+use mathlib.Core.Path.{_≡_, refl, ap₂}
 use mathlib.Core.List.{List, _++_, append-assoc}
-use Prim.Native.Nat.{ℕ, zero, suc, _+_, _-_, _*_, _^_, _<_, _≤_}
+use Prim.Native.Nat.{ℕ, zero, suc, _+_, _-_, _≤_}
 use native.Mathlib.Omega.{arith}
-use lib.ListN.{take, drop, getD, length-take, List·getD-eq-default}
-use lib.Seq.{getD-take, getD-drop}
-use Rattle.numbers.proofs.Cases.{lt-or-ge, eq-or-ne}
-use Rattle.numbers.proofs.DepthLaws.{denominator-lt}
-use Rattle.permutation.proofs.FamilyLaws.{image-permutes}
-use Rattle.halton.proofs.AxisLaws.{numerator-below}
-use Rattle.sobol.specs.Stepping.{stepped}
-use Rattle.sobol.proofs.SteppingLaws.{stepped-lt}
 use Rattle.plan.specs.Plan.{Plan, Valid}
 use Rattle.points.specs.Point.{axisCount, numeratorOf, denominatorOf}
 use Rattle.points.specs.Run.{Run}
-use Rattle.points.specs.Arrays.{familyOf, basesArray, directionsArray, directionsAt, numeratorAt, denominatorAt, Arrays}
-use Rattle.points.proofs.ArrayLaws.{arrays-of, numerator-by-part, numerator-by-base, denominator-by-two, denominator-by-base, numerator-at-plan, denominator-at-plan}
+use Rattle.points.specs.Arrays.{familyOf, basesArray, directionsArray, Arrays}
+use Rattle.points.proofs.ArrayLaws.{arrays-of, numerator-at-plan, denominator-at-plan}
 use Rattle.state.specs.State.{made}
 use Rattle.state.specs.declared.Sampler.{Sampler}
 use Rattle.text.specs.Decimal.{decimal}
 use Rattle.walk_text.specs.Text.{space, slash, fractions, line, lines}
 use Rattle.walk_text.specs.Parts.{fraction, fractionsAt, lineAt, linesAt}
-
--- ---- the numbers
-
-part-lt : (vs : List ℕ) → ((j : ℕ) → getD vs j 0 < 2 ^ 32) → (i j : ℕ) → getD (directionsAt vs i) j 0 < 2 ^ 32
-part-lt vs low i j =
-    ⊎-elim
-    (λ h. rw (getD-take 32 (drop (32 * i) vs) j 0 h, getD-drop (32 * i) vs j 0) (low (32 * i + j)))
-    (λ h. rw (List·getD-eq-default (directionsAt vs i) 0 {n = j} (omega (arith, length-take 32 (drop (32 * i) vs)))) (omega arith))
-    (lt-or-ge j 32)
-
-module _ {family axes : ℕ} {bases vs : List ℕ} (a : Arrays family axes bases vs) (i : ℕ) (h : i < axes) where
-  pub denominator-at-lt : denominatorAt family bases i < 2 ^ 40
-  denominator-at-lt =
-      ⊎-elim
-      (λ e. rw (← denominator-by-two family bases i e) (omega arith))
-      (λ f. rw (← denominator-by-base family bases i f) (denominator-lt (getD bases i 0) (a .base-low i h f) (a .base-high i h f)))
-      (eq-or-ne family 2)
-
-  pub numerator-at-lt : (n : ℕ) → numeratorAt family bases vs n i < 2 ^ 40
-  numerator-at-lt n =
-      ⊎-elim
-      (λ e. omega (arith, numerator-by-two e, stepped-lt 32 (directionsAt vs i) (part-lt vs (a .directions-low) i) n))
-      (λ f.
-      let low = a .base-low i h f in
-      omega (
-        arith,
-        numerator-by-base family bases vs n i f,
-        numerator-below (image-permutes family (getD bases i 0) low) (omega arith) n,
-        denominator-lt (getD bases i 0) low (a .base-high i h f),
-      ))
-      (eq-or-ne family 2)
-    where
-      numerator-by-two : family ≡ 2 → stepped (directionsAt vs i) n ≡ numeratorAt family bases vs n i
-      numerator-by-two e =
-          let k : 32 ≡ 32 * i + 32 - 32 * i = omega arith in
-          ap (λ (j : ℕ). stepped (take j (drop (32 * i) vs)) n) k ∙ numerator-by-part family bases vs n i e
-
--- ---- the text
 
 one-more : (a b c d e : List ℕ) → a ++ (b ++ c ++ d ++ e) ≡ a ++ b ++ c ++ d ++ e
 one-more a b c d e = simp append-assoc

@@ -49,8 +49,8 @@ fn put_fractions(
     let mut at = start;
     let mut i = 0;
     while i < axes {
-        let x = points::numerator(family, axes, bases, directions, n, i);
-        let d = points::denominator(family, axes, bases, directions, i);
+        let x = points::numerator(family, bases, directions, n, i);
+        let d = points::denominator(family, bases, i);
         at = put_fraction(out, at, x, d);
         i += 1;
     }

@@ -6,10 +6,10 @@ use Rattle.bench_calls.proofs.bench_axis_jumps.Statement.{statement}
 use Rattle.bench_calls.proofs.bench_axis_jumps.Tie as tie
 
 abbrev Inv-loop : tie.InvT-loop
-Inv-loop family b first rounds x₀ i₀ x i = i ≤ rounds
+Inv-loop family b first rounds x₀ i₀ none x i = i ≤ rounds
 
 abbrev μ-loop : tie.MeasureT-loop
-μ-loop family b first rounds x₀ i₀ x i = rounds - i
+μ-loop family b first rounds x₀ i₀ none x i = rounds - i
 
 returns : tie.Need-returns Inv-loop μ-loop
 returns c = search needs
@@ -20,8 +20,11 @@ returns-2 c = search needs
 loop-holds : tie.Need-loop-holds Inv-loop μ-loop
 loop-holds c = omega arith
 
+slice-aggregate-jump : tie.Need-slice-aggregate-jump Inv-loop μ-loop
+slice-aggregate-jump c = search needs
+
 jump-requires : tie.Need-jump-requires Inv-loop μ-loop
-jump-requires c κs = (omega arith, omega arith, omega arith)
+jump-requires c κs = (omega arith, omega arith, omega arith, search needs)
 
 add-i : tie.Need-add-i Inv-loop μ-loop
 add-i c = search needs
@@ -44,6 +47,7 @@ bench-axis-jumps-spec =
     returns
     returns-2
     loop-holds
+    slice-aggregate-jump
     jump-requires
     add-i
     loop-less

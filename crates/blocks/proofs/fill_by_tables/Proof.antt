@@ -7,8 +7,10 @@ use Prim.Native.Nat.{ℕ, _-_, _*_, _≤_, _<_}
 use lib.ListN.{drop}
 use borrow.Author.Needs.{needs}
 use Rattle.columns.specs.Rows.{Columns}
-use Rattle.columns.proofs.ColumnLaws.{columns-empty, columns-join, columns-rows, columns-list}
+use Rattle.columns.proofs.ColumnLaws.{columns-empty, columns-as, columns-join, columns-rows, columns-list}
 use Rattle.points.specs.Arrays.{numeratorFrom}
+use Rattle.points.proofs.ArrayLaws.{axis-at}
+use Rattle.blocks.proofs.EntryLaws.{all-ready, all-points}
 use Rattle.blocks.proofs.RowLaws.{points-at-rows}
 use Rattle.blocks.proofs.fill_by_tables.Statement.{statement}
 use Rattle.blocks.proofs.fill_by_tables.Tie as tie
@@ -30,7 +32,9 @@ slice-aggregate-make-all-tables-2 : tie.Need-slice-aggregate-make-all-tables-2 I
 slice-aggregate-make-all-tables-2 c = search needs
 
 make-all-tables-requires : tie.Need-make-all-tables-requires Inv-loop μ-loop
-make-all-tables-requires c κs = let s = c .before .before .before .before .before in (s .pre .0, s .pre .4, search needs, search needs)
+make-all-tables-requires c κs =
+    let s = c .before .before .before .before .before in
+    ((s .pre .0 .few, λ i h. axis-at (s .pre .0) i h .base, s .pre .4), (search needs, search needs))
 
 loop-holds : tie.Need-loop-holds Inv-loop μ-loop
 loop-holds c = (omega arith, columns-empty _ _ _)
@@ -56,10 +60,12 @@ table-rows-requires c κs =
     let a = s .args in
     let l = c .before .before .before .before .before .before .loop in
     let e = c .before .before .before .before .least .ensures in (
-      (s .pre .0, s .pre .4, search needs, search needs),
+      (s .pre .0 .few, s .pre .0 .bases-long, search needs, search needs, search needs),
       (
-        (c .before .before .before .before .before .before .before .before .before .make-all-tables .ensures, search needs),
-        (omega (arith, e .1), omega (arith, further (c .before .before .before .before)), omega (arith, l .inv .1 .same-length, mul-le-mul-right {m = c .before .before .before .before .least .result} {n = a .k} (a .axes) (e .1))),
+        all-ready (c .before .before .before .before .before .before .before .before .before .make-all-tables .ensures),
+        omega (arith, e .1),
+        omega (arith, further (c .before .before .before .before)),
+        omega (arith, l .inv .1 .same-length, mul-le-mul-right {m = c .before .before .before .before .least .result} {n = a .k} (a .axes) (e .1)),
       ),
     )
 
@@ -68,9 +74,14 @@ loop-less c = omega (arith, further (c .before .before .before .before .before .
 
 loop-again : tie.Need-loop-again Inv-loop μ-loop
 loop-again c =
-    let l = c .before .before .before .before .before .before .before .before .before .loop in
     let t = c .before .before .before .before .before .before .before in
-    (t .least .ensures .1, columns-join (l .inv .1) (c .before .before .table-rows .ensures) (omega arith) (omega (arith, further t)))
+    let l = t .before .before .loop in
+    let made = t .before .before .before .before .before .make-all-tables .ensures in
+    let s = t .before .before .before .before .before .before .before .before .before .before .before in
+    let a = s .args in
+    let f = numeratorFrom (a .family) (a .bases .now) (a .directions .now) (a .n) in
+    let rows = columns-as (c .before .before .table-rows .ensures) f (all-points made (s .pre .4) (a .directions .now) (a .n)) in
+    (t .least .ensures .1, columns-join (l .inv .1) rows (omega arith) (omega (arith, further t)))
 
 same-length : tie.Need-same-length Inv-loop μ-loop
 same-length c = c .before .loop .inv .1 .same-length

@@ -7,7 +7,7 @@ use Rattle.halton_blocks.specs.Filling.{haltonFrom}
 use Rattle.sobol_blocks.specs.Filling.{sobolFrom}
 use Rattle.columns.proofs.ColumnLaws.{column-as}
 use Rattle.points.specs.Arrays.{numeratorFrom}
-use Rattle.points.proofs.ArrayLaws.{base-range, numerator-by-part, numerator-by-base}
+use Rattle.points.proofs.ArrayLaws.{numerator-by-part, numerator-by-base}
 use Rattle.blocks.proofs.fill_column.Statement.{statement}
 use Rattle.blocks.proofs.fill_column.Tie as tie
 
@@ -51,7 +51,7 @@ shared-slice-read-halton-column c = search needs
 halton-column-requires : tie.Need-halton-column-requires
 halton-column-requires c κs =
     let s = c .before .before .before .before .before .before in
-    omega (arith, base-range (s .pre .0 .0) (s .args .i) (omega arith) (λ e. omega arith))
+    omega (arith, s .pre .0 .base .low (λ e. omega arith), s .pre .0 .base .high (λ e. omega arith))
 
 same-length-2 : tie.Need-same-length-2
 same-length-2 c = search needs

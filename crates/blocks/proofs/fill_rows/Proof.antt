@@ -4,6 +4,7 @@ use Prim.Native.Nat.{_-_, _≤_}
 use Rattle.columns.specs.Rows.{Columns}
 use Rattle.columns.proofs.ColumnLaws.{columns-none, columns-more, columns-to}
 use Rattle.points.specs.Arrays.{numeratorFrom}
+use Rattle.points.proofs.ArrayLaws.{axis-at}
 use Rattle.blocks.proofs.fill_rows.Statement.{statement}
 use Rattle.blocks.proofs.fill_rows.Tie as tie
 
@@ -20,7 +21,7 @@ fill-column-requires : tie.Need-fill-column-requires Inv-loop μ-loop
 fill-column-requires c κs =
     let s = c .before .before .before .before .before .before in
     let l = c .before .before .loop in
-    ((s .pre .0, omega arith), (omega arith, omega arith, omega arith, omega (arith, l .inv .1 .same-length)))
+    (axis-at (s .pre .0) (l .i) (omega arith), (omega arith, omega arith, omega arith, omega (arith, l .inv .1 .same-length)))
 
 add-i : tie.Need-add-i Inv-loop μ-loop
 add-i c = omega (arith, c .before .before .before .before .before .before .before .before .before .pre .0 .few)

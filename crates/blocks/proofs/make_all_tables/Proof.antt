@@ -5,94 +5,95 @@ use native.Mathlib.Omega.{arith}
 use denote.Ref.{now}
 use lib.ListN.{length, length-set}
 use borrow.Author.Needs.{needs}
-use Rattle.points.proofs.ArrayLaws.{base-range}
 use Rattle.blocks.specs.Tables.{AllMade}
 use Rattle.blocks.proofs.EntryLaws.{all-none, all-more}
 use Rattle.blocks.proofs.make_all_tables.Statement.{statement}
 use Rattle.blocks.proofs.make_all_tables.Tie as tie
 
 abbrev Inv-loop : tie.InvT-loop
-Inv-loop family axes bases directions m images₀ tables₀ sizes₀ i₀ images tables sizes i = (i ≤ axes) × (length sizes ≡ 6) × (length images ≡ length images₀) × (length tables ≡ length tables₀) × AllMade family i bases sizes images tables
+Inv-loop family axes bases m images₀ tables₀ sizes₀ i₀ images tables sizes i = (i ≤ axes) × (length sizes ≡ 6) × (length images ≡ length images₀) × (length tables ≡ length tables₀) × AllMade family i bases sizes images tables
 
 abbrev μ-loop : tie.MeasureT-loop
-μ-loop family axes bases directions m images₀ tables₀ sizes₀ i₀ images tables sizes i = axes - i
+μ-loop family axes bases m images₀ tables₀ sizes₀ i₀ images tables sizes i = axes - i
 
 loop-holds : tie.Need-loop-holds Inv-loop μ-loop
 loop-holds c = (omega arith, refl, refl, refl, all-none _ _ _ _ _)
 
 mul-first : tie.Need-mul-first Inv-loop μ-loop
-mul-first c = omega (arith, c .before .before .before .before .before .before .pre .0 .few)
+mul-first c = omega arith
 
 add-last : tie.Need-add-last Inv-loop μ-loop
-add-last c = omega (arith, c .before .before .before .before .before .before .pre .0 .few)
+add-last c = omega arith
 
 mul-make-tables : tie.Need-mul-make-tables Inv-loop μ-loop
-mul-make-tables c = omega (arith, c .before .before .before .before .before .before .pre .0 .few)
+mul-make-tables c = omega arith
 
 shared-slice-read-make-tables : tie.Need-shared-slice-read-make-tables Inv-loop μ-loop
-shared-slice-read-make-tables c = omega (arith, c .before .before .before .before .before .before .before .pre .0 .few)
+shared-slice-read-make-tables c =
+    let s = c .before .before .before .before .before .before in
+    omega (arith, s .pre .0 .1 (c .before .before .loop .i) (omega arith) .reach)
 
 sub-make-tables : tie.Need-sub-make-tables Inv-loop μ-loop
-sub-make-tables c = omega (arith, c .before .before .before .before .before .before .before .pre .0 .few)
+sub-make-tables c = omega arith
 
 part-make-tables-start : tie.Need-part-make-tables-start Inv-loop μ-loop
-part-make-tables-start c = omega (arith, c .before .before .before .before .before .before .before .pre .0 .few)
+part-make-tables-start c = omega arith
 
 part-make-tables-end : tie.Need-part-make-tables-end Inv-loop μ-loop
-part-make-tables-end c = omega (arith, c .before .before .before .before .before .before .before .pre .0 .few)
+part-make-tables-end c = omega arith
 
 mul-make-tables-2 : tie.Need-mul-make-tables-2 Inv-loop μ-loop
-mul-make-tables-2 c = omega (arith, c .before .before .before .before .before .before .before .before .pre .0 .few)
+mul-make-tables-2 c = omega arith
 
 sub-make-tables-2 : tie.Need-sub-make-tables-2 Inv-loop μ-loop
-sub-make-tables-2 c = omega (arith, c .before .before .before .before .before .before .before .before .pre .0 .few)
+sub-make-tables-2 c = omega arith
 
 part-make-tables-start-2 : tie.Need-part-make-tables-start-2 Inv-loop μ-loop
-part-make-tables-start-2 c = omega (arith, c .before .before .before .before .before .before .before .before .pre .0 .few)
+part-make-tables-start-2 c = omega arith
 
 part-make-tables-end-2 : tie.Need-part-make-tables-end-2 Inv-loop μ-loop
-part-make-tables-end-2 c = omega (arith, c .before .before .before .before .before .before .before .before .pre .0 .few)
+part-make-tables-end-2 c = omega arith
 
 make-tables-requires : tie.Need-make-tables-requires Inv-loop μ-loop
 make-tables-requires c κs =
-    let s = c .before .before .before .before .before .before .before .before .before in
+    let s = c .before .before .before .before .before .before .before .before in
     let i = c .before .before .before .before .loop .i in
-    let e = base-range (s .pre .0) i (omega arith) (s .pre .1) in
-    (e .0, e .1, search needs, search needs)
+    let e = s .pre .0 .1 i (omega arith) in
+    (e .low (s .pre .0 .2), e .high (s .pre .0 .2), search needs, search needs)
 
 mul-sizes : tie.Need-mul-sizes Inv-loop μ-loop
-mul-sizes c = omega (arith, c .before .before .before .before .before .before .before .before .before .before .before .before .before .before .pre .0 .few)
+mul-sizes c = omega arith
 
 array-write-sizes : tie.Need-array-write-sizes Inv-loop μ-loop
-array-write-sizes c = omega (arith, c .before .before .before .before .before .before .before .before .before .before .before .before .before .before .pre .0 .few)
+array-write-sizes c = omega arith
 
 add-i : tie.Need-add-i Inv-loop μ-loop
-add-i c = omega (arith, c .before .before .before .before .before .before .before .before .before .before .before .before .before .before .pre .0 .few)
+add-i c = omega arith
 
 loop-less : tie.Need-loop-less Inv-loop μ-loop
-loop-less c = omega (arith, c .before .before .before .before .before .before .before .before .before .before .before .before .before .before .pre .0 .few)
+loop-less c = omega arith
 
 loop-again : tie.Need-loop-again Inv-loop μ-loop
 loop-again c =
-    let s = c .before .before .before .before .before .before .before .before .before .before .before .before .before .before in
+    let s = c .before .before .before .before .before .before .before .before .before .before .before .before .before in
     let l = c .before .before .before .before .before .before .before .before .before .loop in
     let m = c .before .before .before .before .make-tables in (
       omega arith,
       length-set (l .sizes) (l .i) _ ∙ l .inv .1,
       search needs,
       search needs,
-      all-more (s .args .family) (l .i) (now (s .args .bases)) (l .sizes) (l .images) (l .tables) (m .result) _ _ _ _ (omega (arith, s .pre .0 .few)) (l .inv .1) (omega (arith, l .inv .2)) (omega (arith, l .inv .3)) (search needs) (search needs) (l .inv .4) (m .ensures),
+      all-more (s .args .family) (l .i) (now (s .args .bases)) (l .sizes) (l .images) (l .tables) (m .result) _ _ _ _ (omega arith) (l .inv .1) (omega (arith, l .inv .2)) (omega (arith, l .inv .3)) (search needs) (search needs) (l .inv .4) (m .ensures),
     )
 
 same-length : tie.Need-same-length Inv-loop μ-loop
-same-length c = omega (arith, c .before .before .before .before .before .before .pre .0 .few)
+same-length c = omega arith
 
 same-length-2 : tie.Need-same-length-2 Inv-loop μ-loop
-same-length-2 c = omega (arith, c .before .before .before .before .before .before .pre .0 .few)
+same-length-2 c = omega arith
 
 returns : tie.Need-returns Inv-loop μ-loop
 returns c =
-    let a = c .before .before .before .before .before .before .args in
+    let a = c .before .before .before .before .before .args in
     let l = c .before .loop in
     subst (λ (y : ℕ). AllMade (a .family) y (now (a .bases)) (l .sizes) (l .images) (l .tables)) {x = l .i} {y = a .axes} (omega arith) (l .inv .4)
 

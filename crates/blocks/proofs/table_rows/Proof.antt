@@ -1,111 +1,97 @@
 -- `blocks::table_rows` meets its contract: the columns of the first i axes are written. Assumes nothing.
-use mathlib.Core.Path.{_≡_, _∙_, subst}
-use Prim.Native.Nat.{ℕ, _+_, _-_, _*_, _≤_}
+use mathlib.Core.Path.{_≡_, refl}
+use Prim.Native.Nat.{_+_, _-_, _*_, _≤_}
 use native.Mathlib.Omega.{arith}
-use mathlib.Core.List.{List}
 use denote.Ref.{now}
 use lib.ListN.{getD, take, drop}
 use borrow.Author.Needs.{needs}
 use Rattle.columns.specs.Rows.{Columns}
 use Rattle.columns.proofs.ColumnLaws.{column-as, columns-none, columns-more, columns-to}
-use Rattle.points.specs.Arrays.{numeratorFrom}
-use Rattle.points.proofs.ArrayLaws.{base-range, numerator-by-base}
-use Rattle.halton_blocks.specs.Filling.{haltonFrom, Made}
-use Rattle.halton_blocks.proofs.MadeLaws.{made-images, made-points}
-use Rattle.blocks.proofs.EntryLaws.{all-at}
+use Rattle.halton_blocks.specs.Filling.{Ready}
+use Rattle.blocks.specs.Tables.{tabledAt}
 use Rattle.blocks.proofs.table_rows.Statement.{statement}
 use Rattle.blocks.proofs.table_rows.Tie as tie
 
 abbrev Inv-loop : tie.InvT-loop
-Inv-loop family axes bases directions images tables sizes n lo hi out₀ i₀ out i = (i ≤ axes) × Columns (numeratorFrom family bases directions n) lo hi axes i out₀ out
+Inv-loop axes bases images tables sizes n lo hi out₀ i₀ out i = (i ≤ axes) × Columns (tabledAt bases images n) lo hi axes i out₀ out
 
 abbrev μ-loop : tie.MeasureT-loop
-μ-loop family axes bases directions images tables sizes n lo hi out₀ i₀ out i = axes - i
+μ-loop axes bases images tables sizes n lo hi out₀ i₀ out i = axes - i
 
 -- the tables of the turn's axis, as the code takes them
-made : (c : tie.In-loop Inv-loop μ-loop) →
-    let a = c .before .before .before .before .before .before .before .before .args in
+ready : (c : tie.In-loop Inv-loop μ-loop) →
+    let a = c .before .before .before .before .before .before .before .args in
     let i = c .before .loop .i in
     let k = 256 * i + 256 - 256 * i in
-    Made (a .family) (getD (now (a .bases)) i 0) (getD (now (a .sizes)) i 0) (take k (drop (256 * i) (now (a .images)))) (take k (drop (256 * i) (now (a .tables))))
-made c =
-    let s = c .before .before .before .before .before .before .before .before in
-    let a = s .args in
+    Ready (getD (now (a .bases)) i 0) (getD (now (a .sizes)) i 0) (take k (drop (256 * i) (now (a .images)))) (take k (drop (256 * i) (now (a .tables))))
+ready c =
+    let s = c .before .before .before .before .before .before .before in
     let i = c .before .loop .i in
-    subst
-    (λ (k : ℕ). Made (a .family) (getD (now (a .bases)) i 0) (getD (now (a .sizes)) i 0) (take k (drop (256 * i) (now (a .images)))) (take k (drop (256 * i) (now (a .tables)))))
-    {x = 256} {y = 256 * i + 256 - 256 * i} (omega arith) (all-at (a .family) (a .axes) (now (a .bases)) (now (a .sizes)) (now (a .images)) (now (a .tables)) (s .pre .1 .0 .0) i (omega arith))
-
-point : (family : ℕ) (bases vs : List ℕ) (n k i : ℕ) → (family ≡ 2 → ⊥) → haltonFrom family (getD bases i 0) n k ≡ numeratorFrom family bases vs n i k
-unfolding numeratorFrom haltonFrom
-point family bases vs n k i f = numerator-by-base family bases vs (n + k) i f
+    let k : 256 * i + 256 - 256 * i ≡ 256 = omega arith in
+    rw k (s .pre .1 .0 .at i (omega arith))
 
 loop-holds : tie.Need-loop-holds Inv-loop μ-loop
 loop-holds c = (omega arith, columns-none _ _ _ _ _)
 
 mul-first : tie.Need-mul-first Inv-loop μ-loop
-mul-first c = omega (arith, c .before .before .before .before .before .before .before .before .pre .0 .0 .few)
+mul-first c = omega arith
 
 add-last : tie.Need-add-last Inv-loop μ-loop
-add-last c = omega (arith, c .before .before .before .before .before .before .before .before .pre .0 .0 .few)
+add-last c = omega arith
 
 mul-fill-tiles : tie.Need-mul-fill-tiles Inv-loop μ-loop
-mul-fill-tiles c = omega (arith, c .before .before .before .before .before .before .before .before .pre .0 .0 .few)
+mul-fill-tiles c = omega arith
 
 shared-slice-read-fill-tiles : tie.Need-shared-slice-read-fill-tiles Inv-loop μ-loop
-shared-slice-read-fill-tiles c = omega (arith, c .before .before .before .before .before .before .before .before .before .pre .0 .0 .few)
+shared-slice-read-fill-tiles c = omega arith
 
 sub-fill-tiles : tie.Need-sub-fill-tiles Inv-loop μ-loop
-sub-fill-tiles c = omega (arith, c .before .before .before .before .before .before .before .before .before .pre .0 .0 .few)
+sub-fill-tiles c = omega arith
 
 part-fill-tiles-start : tie.Need-part-fill-tiles-start Inv-loop μ-loop
-part-fill-tiles-start c = omega (arith, c .before .before .before .before .before .before .before .before .before .pre .0 .0 .few)
+part-fill-tiles-start c = omega arith
 
 part-fill-tiles-end : tie.Need-part-fill-tiles-end Inv-loop μ-loop
-part-fill-tiles-end c = omega (arith, c .before .before .before .before .before .before .before .before .before .pre .0 .0 .few)
+part-fill-tiles-end c = omega arith
 
 mul-fill-tiles-2 : tie.Need-mul-fill-tiles-2 Inv-loop μ-loop
-mul-fill-tiles-2 c = omega (arith, c .before .before .before .before .before .before .before .before .before .before .pre .0 .0 .few)
+mul-fill-tiles-2 c = omega arith
 
 shared-slice-read-fill-tiles-2 : tie.Need-shared-slice-read-fill-tiles-2 Inv-loop μ-loop
-shared-slice-read-fill-tiles-2 c = omega (arith, c .before .before .before .before .before .before .before .before .before .before .before .pre .0 .0 .few)
+shared-slice-read-fill-tiles-2 c = omega arith
 
 mul-fill-tiles-3 : tie.Need-mul-fill-tiles-3 Inv-loop μ-loop
-mul-fill-tiles-3 c = omega (arith, c .before .before .before .before .before .before .before .before .before .before .before .pre .0 .0 .few)
+mul-fill-tiles-3 c = omega arith
 
 sub-fill-tiles-2 : tie.Need-sub-fill-tiles-2 Inv-loop μ-loop
-sub-fill-tiles-2 c = omega (arith, c .before .before .before .before .before .before .before .before .before .before .before .pre .0 .0 .few)
+sub-fill-tiles-2 c = omega arith
 
 part-fill-tiles-start-2 : tie.Need-part-fill-tiles-start-2 Inv-loop μ-loop
-part-fill-tiles-start-2 c = omega (arith, c .before .before .before .before .before .before .before .before .before .before .before .pre .0 .0 .few)
+part-fill-tiles-start-2 c = omega arith
 
 part-fill-tiles-end-2 : tie.Need-part-fill-tiles-end-2 Inv-loop μ-loop
-part-fill-tiles-end-2 c = omega (arith, c .before .before .before .before .before .before .before .before .before .before .before .pre .0 .0 .few)
+part-fill-tiles-end-2 c = omega arith
 
 fill-tiles-requires : tie.Need-fill-tiles-requires Inv-loop μ-loop
 fill-tiles-requires c κs =
-    let s = c .before .before .before .before .before .before .before .before .before .before .before .before .before in
     let l = c .before .before .before .before .before .before .loop in
-    let m = made (c .before .before .before .before .before) in
-    let r = base-range (s .pre .0 .0) (l .i) (omega arith) (s .pre .0 .1) in
-    ((r .0, r .1, search needs, made-images m (r .0)), ((m .few, search needs, m .table), (omega arith, omega arith, omega arith, omega (arith, l .inv .1 .same-length))))
+    ((ready (c .before .before .before .before .before), search needs, search needs), (omega arith, omega arith, omega arith, omega (arith, l .inv .1 .same-length)))
 
 add-i : tie.Need-add-i Inv-loop μ-loop
-add-i c = omega (arith, c .before .before .before .before .before .before .before .before .before .before .before .before .before .before .before .before .pre .0 .0 .few)
+add-i c = omega arith
 
 loop-less : tie.Need-loop-less Inv-loop μ-loop
-loop-less c = omega (arith, c .before .before .before .before .before .before .before .before .before .before .before .before .before .before .before .before .pre .0 .0 .few)
+loop-less c = omega arith
 
 loop-again : tie.Need-loop-again Inv-loop μ-loop
+unfolding tabledAt
 loop-again c =
-    let s = c .before .before .before .before .before .before .before .before .before .before .before .before .before .before .before .before in
-    let a = s .args in
+    let a = c .before .before .before .before .before .before .before .before .before .before .before .before .before .before .before .args in
     let l = c .before .before .before .before .before .before .before .before .before .loop in
-    let r = base-range (s .pre .0 .0) (l .i) (omega arith) (s .pre .0 .1) in (
+    let k : 256 * l .i + 256 - 256 * l .i ≡ 256 = omega arith in (
       omega arith,
       columns-more (l .inv .1)
-          (column-as (c .before .before .fill-tiles .ensures) (numeratorFrom (a .family) (now (a .bases)) (now (a .directions)) (a .n) (l .i))
-          (λ k h q. made-points (made (c .before .before .before .before .before .before .before .before)) (r .0) (a .n) k ∙ point (a .family) (now (a .bases)) (now (a .directions)) (a .n) k (l .i) (s .pre .0 .1)))
+          (column-as (c .before .before .fill-tiles .ensures) (tabledAt (now (a .bases)) (now (a .images)) (a .n) (l .i)) (λ x h q. rw k refl))
           (omega arith),
     )
 

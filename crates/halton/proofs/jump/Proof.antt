@@ -1,70 +1,77 @@
--- `jump` meets its contract: each digit by a product; at 2^32 or above the power says that the depth is
--- reached. Assumes nothing.
+-- `halton::jump` meets its contract: each digit by a product; at 2^32 or above the power says that the depth is reached. Assumes nothing.
 use mathlib.Core.Path.{refl}
 use Prim.Native.Nat.{_+_, _-_, _*_, _/_, _^_, _≤_, _<_}
 use native.Mathlib.Nat.{div-le-self, div-mul-le-self}
 use native.Mathlib.Omega.{arith}
+use denote.Ref.{now}
 use Rattle.numbers.proofs.DepthLaws.{rising-pos, rising-fits, rising-nears}
 use Rattle.numbers.proofs.ReciprocalLaws.{Divided, divided, remainder-lt}
-use Rattle.permutation.specs.Families.{imageOf}
-use Rattle.permutation.proofs.FamilyLaws.{image-permutes}
+use Rattle.halton.specs.Images.{imageBy, DigitMap}
+use Rattle.halton.proofs.ImageLaws.{image-by-digits}
 use Rattle.halton.proofs.ReversingLaws.{Reversing, reversing-first, reversing-divided, reversing-lt, reversing-whole}
 use Rattle.halton.proofs.jump.Statement.{statement}
 use Rattle.halton.proofs.jump.Tie as tie
 
 abbrev Inv-loop : tie.InvT-loop
-Inv-loop family b n m rest₀ x₀ p₀ rest x p = (rest * b < 2 ^ 32) × Reversing (imageOf family b) b n x rest p
+Inv-loop family b images n m rest₀ x₀ p₀ rest x p = (rest * b < 2 ^ 32) × Reversing (imageBy family b images) b n x rest p
 
 abbrev μ-loop : tie.MeasureT-loop
-μ-loop family b n m rest₀ x₀ p₀ rest x p = 2 ^ 32 - p
+μ-loop family b images n m rest₀ x₀ p₀ rest x p = 2 ^ 32 - p
 
 -- a turn's quotient
 turn : (c : tie.In-loop Inv-loop μ-loop) →
-    let b = c .before .before .before .before .args .b in
+    let b = c .before .before .before .before .before .args .b in
     let r = c .before .loop .rest in
     Divided b r (r * (2 ^ 32 / b + 1) / 2 ^ 32)
-turn c = divided (c .before .before .before .before .args .b) (c .before .loop .rest) (omega arith) (c .before .loop .inv .0)
+turn c = divided (c .before .before .before .before .before .args .b) (c .before .loop .rest) (omega arith) (c .before .loop .inv .0)
+
+-- what a digit becomes is a digit
+digits : (c : tie.In-loop Inv-loop μ-loop) →
+    let a = c .before .before .before .before .before .args in
+    DigitMap (a .b) (imageBy (a .family) (a .b) (now (a .images)))
+digits c =
+    let s = c .before .before .before .before .before in
+    image-by-digits (s .args .family) (s .args .b) (now (s .args .images)) (omega arith) (s .pre .3)
 
 -- what is made so far, times b, is below 2^40
-shifted : (c : tie.In-loop Inv-loop μ-loop) → c .before .loop .x * c .before .before .before .before .args .b < 2 ^ 40
+shifted : (c : tie.In-loop Inv-loop μ-loop) → c .before .loop .x * c .before .before .before .before .before .args .b < 2 ^ 40
 shifted c =
-    let a = c .before .before .before .before .args in
+    let a = c .before .before .before .before .before .args in
     let l = c .before .loop in
-    let lt = reversing-lt (l .inv .1) (omega arith) (image-permutes (a .family) (a .b) (omega arith) .below) in
-    rising-fits {b = a .b} {p = l .x} (omega arith) (omega (arith, lt))
+    rising-fits {b = a .b} {p = l .x} (omega arith) (omega (arith, reversing-lt (l .inv .1) (omega arith) (digits c .below)))
 
 div-m : tie.Need-div-m Inv-loop μ-loop
 div-m c = omega arith
 
 add-m : tie.Need-add-m Inv-loop μ-loop
-add-m c = omega (arith, div-le-self 4294967296 (c .args .b))
+add-m c = omega (arith, div-le-self 4294967296 (c .before .args .b))
 
 quotient-requires : tie.Need-quotient-requires Inv-loop μ-loop
 quotient-requires c κs = (omega arith, omega arith, omega arith, refl)
 
 -- the first digit
 first : (c : tie.After-quotient Inv-loop μ-loop) →
-    let a = c .before .args in
+    let a = c .before .before .args in
     let q = c .quotient .result in
     (q * a .b ≤ a .n) × (a .n - q * a .b < a .b)
 first c =
-    let a = c .before .args in
+    let a = c .before .before .args in
     rw (c .quotient .ensures) (div-mul-le-self (a .n) (a .b), remainder-lt (a .n) (a .b) (omega arith))
 
-mul-image : tie.Need-mul-image Inv-loop μ-loop
-mul-image c = omega (arith, first c)
+mul-digit-image : tie.Need-mul-digit-image Inv-loop μ-loop
+mul-digit-image c = omega (arith, first c)
 
-sub-image : tie.Need-sub-image Inv-loop μ-loop
-sub-image c = first c .0
+sub-digit-image : tie.Need-sub-digit-image Inv-loop μ-loop
+sub-digit-image c = first c .0
 
-image-requires : tie.Need-image-requires Inv-loop μ-loop
-image-requires c κs = omega (arith, first c)
+digit-image-requires : tie.Need-digit-image-requires Inv-loop μ-loop
+digit-image-requires c κs = omega (arith, first c)
 
 loop-holds : tie.Need-loop-holds Inv-loop μ-loop
 loop-holds c =
-    let a = c .before .before .args in (
+    let a = c .before .before .before .args in (
       omega (arith, first (c .before)),
-      rw (c .image .ensures, c .before .quotient .ensures) (reversing-first (imageOf (a .family) (a .b)) (a .b) (a .n) (omega arith)),
+      rw (c .digit-image .ensures, c .before .quotient .ensures) (reversing-first (imageBy (a .family) (a .b) (now (a .images))) (a .b) (a .n) (omega arith)),
     )
 
 mul-q : tie.Need-mul-q Inv-loop μ-loop
@@ -73,28 +80,26 @@ mul-q c = omega (arith, turn c .product)
 mul-x : tie.Need-mul-x Inv-loop μ-loop
 mul-x c = omega (arith, shifted c)
 
-mul-image-2 : tie.Need-mul-image-2 Inv-loop μ-loop
-mul-image-2 c = omega (arith, turn c .fits)
+mul-digit-image-2 : tie.Need-mul-digit-image-2 Inv-loop μ-loop
+mul-digit-image-2 c = omega (arith, turn c .fits)
 
-sub-image-2 : tie.Need-sub-image-2 Inv-loop μ-loop
-sub-image-2 c = turn c .back
+sub-digit-image-2 : tie.Need-sub-digit-image-2 Inv-loop μ-loop
+sub-digit-image-2 c = turn c .back
 
-image-requires-2 : tie.Need-image-requires-2 Inv-loop μ-loop
-image-requires-2 c κs = omega (arith, turn c .digit)
+digit-image-requires-2 : tie.Need-digit-image-requires-2 Inv-loop μ-loop
+digit-image-requires-2 c κs = omega (arith, turn c .digit)
 
 add-x : tie.Need-add-x Inv-loop μ-loop
-add-x c =
-    let a = c .before .before .before .before .before .args in
-    omega (arith, shifted (c .before), c .image2 .ensures, image-permutes (a .family) (a .b) (omega arith) .below _ (turn (c .before) .digit))
+add-x c = omega (arith, shifted (c .before), c .digit-image2 .ensures, digits (c .before) .below _ (turn (c .before) .digit))
 
 mul-p : tie.Need-mul-p Inv-loop μ-loop
-mul-p c = omega (arith, rising-fits {b = c .before .before .before .before .before .args .b} {p = c .before .before .loop .p} (omega arith) (omega arith))
+mul-p c = omega (arith, rising-fits {b = c .before .before .before .before .before .before .args .b} {p = c .before .before .loop .p} (omega arith) (omega arith))
 
 loop-less : tie.Need-loop-less Inv-loop μ-loop
 loop-less c = rising-nears (omega arith) (rising-pos (c .before .before .loop .inv .1 .power) (omega arith)) (omega arith)
 
 loop-again : tie.Need-loop-again Inv-loop μ-loop
-loop-again c = (turn (c .before) .fits, rw (c .image2 .ensures) (reversing-divided (c .before .before .loop .inv .1) (omega arith) (turn (c .before)) (omega arith)))
+loop-again c = (turn (c .before) .fits, rw (c .digit-image2 .ensures) (reversing-divided (c .before .before .loop .inv .1) (omega arith) (turn (c .before)) (omega arith)))
 
 returns : tie.Need-returns Inv-loop μ-loop
 returns c = reversing-whole (c .before .loop .inv .1) (omega arith) (omega arith)
@@ -108,15 +113,15 @@ jump-spec =
     div-m
     add-m
     quotient-requires
-    mul-image
-    sub-image
-    image-requires
+    mul-digit-image
+    sub-digit-image
+    digit-image-requires
     loop-holds
     mul-q
     mul-x
-    mul-image-2
-    sub-image-2
-    image-requires-2
+    mul-digit-image-2
+    sub-digit-image-2
+    digit-image-requires-2
     add-x
     mul-p
     loop-less

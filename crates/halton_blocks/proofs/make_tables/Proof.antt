@@ -1,8 +1,7 @@
 -- `halton_blocks::make_tables` meets its contract. Assumes nothing.
 use native.Mathlib.Omega.{arith}
 use borrow.Author.Needs.{needs}
-use Rattle.permutation.proofs.FamilyLaws.{image-permutes}
-use Rattle.tables.proofs.TableLaws.{images-of}
+use Rattle.halton.proofs.ImageLaws.{image-digits, table-digits}
 use Rattle.halton_blocks.proofs.make_tables.Statement.{statement}
 use Rattle.halton_blocks.proofs.make_tables.Tie as tie
 
@@ -16,7 +15,7 @@ table-requires : tie.Need-table-requires
 table-requires c κs =
     let a = c .before .before .before .before .before .before .before .before .before .args in
     let e = c .before .before .table-limit .ensures in
-    (search needs, search needs, search needs, images-of (c .before .before .before .before .before .images .ensures) (image-permutes (a .family) (a .b) (omega arith)) (omega arith), search needs, e .0, e .1)
+    (search needs, search needs, search needs, table-digits (c .before .before .before .before .before .images .ensures) (image-digits (a .family) (a .b) (omega arith)) (omega arith), search needs, e .0, e .1)
 
 same-length : tie.Need-same-length
 same-length c = search needs
@@ -27,7 +26,12 @@ same-length-2 c = search needs
 returns : tie.Need-returns
 returns c =
     let e = c .before .before .table .ensures in
-    record { few = e .0; images = c .before .before .before .before .before .before .before .before .images .ensures; table = e .1 }
+    let i = c .before .before .before .before .before .before .before .before .images .ensures in
+    let a = c .before .before .before .before .before .before .before .before .before .before .before .before .args in
+    record {
+      ready = record { low = omega arith; high = omega arith; few = e .0; digits = table-digits i (image-digits (a .family) (a .b) (omega arith)) (omega arith); table = e .1 };
+      images = i;
+    }
 
 pub make-tables-spec : {M : Type 1} → statement M
 make-tables-spec =

@@ -1,9 +1,8 @@
 -- `halton_blocks::table_column` meets its contract: its parts one after the other. Assumes nothing.
-use native.Mathlib.Omega.{arith}
 use borrow.Author.Needs.{needs}
 use Rattle.columns.proofs.ColumnLaws.{column-as}
 use Rattle.halton_blocks.specs.Filling.{haltonFrom}
-use Rattle.halton_blocks.proofs.MadeLaws.{made-images, made-points}
+use Rattle.halton_blocks.proofs.MadeLaws.{made-points}
 use Rattle.halton_blocks.proofs.table_column.Statement.{statement}
 use Rattle.halton_blocks.proofs.table_column.Tie as tie
 
@@ -28,7 +27,7 @@ slice-aggregate-fill-tiles-2 c = search needs
 fill-tiles-requires : tie.Need-fill-tiles-requires
 fill-tiles-requires c κs =
     let m = c .before .before .before .before .before .make-tables .ensures in
-    ((search needs, search needs, search needs, made-images m (omega arith)), ((m .few, search needs, m .table), (search needs, search needs, search needs, search needs)))
+    ((m .ready, search needs, search needs), (search needs, search needs, search needs, search needs))
 
 same-length : tie.Need-same-length
 same-length c = search needs
@@ -37,7 +36,7 @@ returns : tie.Need-returns
 returns c =
     let a = c .before .before .before .before .before .before .before .before .before .before .before .before .args in
     column-as (c .before .before .fill-tiles .ensures) (haltonFrom (a .family) (a .b) (a .n))
-    (λ k h q. made-points (c .before .before .before .before .before .before .before .before .make-tables .ensures) (omega arith) (a .n) k)
+    (λ k h q. made-points (c .before .before .before .before .before .before .before .before .make-tables .ensures) (a .n) k)
 
 pub table-column-spec : {M : Type 1} → statement M
 table-column-spec =

@@ -1,8 +1,7 @@
 -- `halton_marks::halton_marks` meets its contract: its parts one after the other. Assumes nothing.
-use native.Mathlib.Omega.{arith}
 use borrow.Author.Needs.{needs}
 use Rattle.halton_blocks.specs.Filling.{haltonFrom}
-use Rattle.halton_blocks.proofs.MadeLaws.{made-images, made-points}
+use Rattle.halton_blocks.proofs.MadeLaws.{made-points}
 use Rattle.marks.proofs.MarkLaws.{marked-as}
 use Rattle.halton_marks.proofs.halton_marks.Statement.{statement}
 use Rattle.halton_marks.proofs.halton_marks.Tie as tie
@@ -25,7 +24,7 @@ slice-aggregate-tiles-2 c = search needs
 tiles-requires : tie.Need-tiles-requires
 tiles-requires c κs =
     let m = c .before .before .before .before .before .make-tables .ensures in
-    ((search needs, search needs, search needs, made-images m (omega arith)), ((m .few, search needs, m .table), (search needs, search needs)))
+    ((m .ready, search needs, search needs), (search needs, search needs))
 
 same-length : tie.Need-same-length
 same-length c = search needs
@@ -33,7 +32,7 @@ same-length c = search needs
 returns : tie.Need-returns
 returns c =
     let a = c .before .before .before .before .before .before .before .before .before .before .before .before .args in
-    marked-as (c .before .before .tiles .ensures) (haltonFrom (a .family) (a .b) (a .n)) (λ k h q. made-points (c .before .before .before .before .before .before .before .before .make-tables .ensures) (omega arith) (a .n) k)
+    marked-as (c .before .before .tiles .ensures) (haltonFrom (a .family) (a .b) (a .n)) (λ k h q. made-points (c .before .before .before .before .before .before .before .before .make-tables .ensures) (a .n) k)
 
 pub halton-marks-spec : {M : Type 1} → statement M
 halton-marks-spec =

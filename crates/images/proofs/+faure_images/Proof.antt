@@ -4,9 +4,9 @@ use native.Mathlib.Omega.{arith}
 use borrow.Author.Needs.{needs}
 use borrow.Fn.Kinds.{In}
 use borrow.Fn.PlainCycle.{Measures, is, falls, and}
+use Rattle.numbers.proofs.ListedLaws.{begins-as}
 use Rattle.permutation.specs.Faure.{faure}
 use Rattle.permutation.specs.Families.{imageOf}
-use Rattle.images.proofs.ImageLaws.{imaged-as}
 use Rattle.permutation.proofs.FaureRules.{faure-small}
 use Rattle.images.proofs.faure_images.Reads as faure-images
 use Rattle.images.proofs.faure_images.Kinds as faure-images-kinds
@@ -40,7 +40,7 @@ returns : (t : ℕ) → lts.Need-returns (calls t) (at t) faure-images.Post
 unfolding imageOf
 returns t c =
     let b = c .before .before .before .before .before .before .args .b in
-    imaged-as (c .before .before .plain-images .ensures) (faure b) (λ d h. faure-small b d (omega arith) h)
+    begins-as (c .before .before .plain-images .ensures) (faure b) (λ d h. faure-small b d (omega arith) h)
 
 faure-images-requires : (t : ℕ) → lts.Need-faure-images-requires (calls t) (at t) faure-images.Post
 faure-images-requires t c κs = omega arith

@@ -3,10 +3,9 @@
 use mathlib.Core.Path.{_≡_, refl}
 use Prim.Native.Nat.{_-_, _/_, _≤_, _<_}
 use native.Mathlib.Omega.{arith}
-use lib.ListN.{length, length-set}
+use lib.ListN.{length, getD, length-set}
 use Rattle.permutation.specs.Faure.{faure}
 use Rattle.permutation.proofs.FaureLaws.{faure-below}
-use Rattle.images.specs.Images.{imageIn}
 use Rattle.images.proofs.ImageLaws.{Halves, halves-none, halves-more, halves-meet}
 use Rattle.images.proofs.HalfLaws.{even-low, even-high}
 use Rattle.images.proofs.even_images.Statement.{statement}
@@ -24,7 +23,7 @@ loop-holds c = (omega arith, halves-none _ _ (c .pre .4), refl)
 -- the entry that a turn reads
 entry : (c : tie.In-loop Inv-loop μ-loop) →
     let a = c .before .before .args in
-    let l = c .before .loop in (imageIn (l .l) (l .k) ≡ faure (a .b / 2) (l .k)) × (imageIn (l .l) (l .k) < a .b / 2)
+    let l = c .before .loop in (getD (l .l) (l .k) 0 ≡ faure (a .b / 2) (l .k)) × (getD (l .l) (l .k) 0 < a .b / 2)
 entry c =
     let a = c .before .before .args in
     let l = c .before .loop in

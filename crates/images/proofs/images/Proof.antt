@@ -1,8 +1,8 @@
 -- `images::images` meets its contract: one law of the families an arm. Assumes nothing.
 use native.Mathlib.Omega.{arith}
+use Rattle.numbers.proofs.ListedLaws.{begins-as}
 use Rattle.permutation.specs.Families.{imageOf}
 use Rattle.permutation.proofs.FamilyLaws.{image-permuted, image-plain}
-use Rattle.images.proofs.ImageLaws.{imaged-as}
 use borrow.Author.Needs.{needs}
 use Rattle.images.proofs.images.Statement.{statement}
 use Rattle.images.proofs.images.Tie as tie
@@ -19,7 +19,7 @@ same-length c = search needs
 returns : tie.Need-returns
 returns c =
     let a = c .before .before .before .before .before .before .args in
-    imaged-as (c .before .before .faure-images .ensures) (imageOf (a .family) (a .b)) (λ d h. image-permuted (a .family) (a .b) d (omega arith))
+    begins-as (c .before .before .faure-images .ensures) (imageOf (a .family) (a .b)) (λ d h. image-permuted (a .family) (a .b) d (omega arith))
 
 same-length-2 : tie.Need-same-length-2
 same-length-2 c = search needs
@@ -28,7 +28,7 @@ returns-2 : tie.Need-returns-2
 unfolding imageOf
 returns-2 c =
     let a = c .before .before .before .before .before .before .args in
-    imaged-as (c .before .before .plain-images .ensures) (imageOf (a .family) (a .b)) (λ d h. image-plain (a .family) (a .b) d (λ e. omega arith))
+    begins-as (c .before .before .plain-images .ensures) (imageOf (a .family) (a .b)) (λ d h. image-plain (a .family) (a .b) d (λ e. omega arith))
 
 pub images-spec : {M : Type 1} → statement M
 images-spec =

@@ -2,11 +2,10 @@
 use mathlib.Core.Path.{_≡_, refl, ap, _∙_}
 use Prim.Native.Nat.{ℕ, _+_, _-_, _*_, _/_, _≤_, _<_}
 use native.Mathlib.Omega.{arith}
-use lib.ListN.{length, length-set}
+use lib.ListN.{length, getD, length-set}
 use Rattle.permutation.specs.Faure.{openGap, faure}
 use Rattle.permutation.proofs.FaureRules.{odd-middle}
 use Rattle.permutation.proofs.FaureLaws.{faure-below}
-use Rattle.images.specs.Images.{imageIn}
 use Rattle.images.proofs.ImageLaws.{Halves, halves-none, halves-more, halves-centre}
 use Rattle.images.proofs.HalfLaws.{odd-low, odd-high}
 use Rattle.images.proofs.odd_images.Statement.{statement}
@@ -24,7 +23,7 @@ loop-holds c = (omega arith, halves-none _ _ (c .before .pre .4), refl)
 -- the entry that a turn reads
 entry : (c : tie.In-loop Inv-loop μ-loop) →
     let a = c .before .before .before .args in
-    let l = c .before .loop in (imageIn (l .l) (l .k) ≡ faure (a .b / 2) (l .k)) × (imageIn (l .l) (l .k) < a .b / 2)
+    let l = c .before .loop in (getD (l .l) (l .k) 0 ≡ faure (a .b / 2) (l .k)) × (getD (l .l) (l .k) 0 < a .b / 2)
 entry c =
     let a = c .before .before .before .args in
     let l = c .before .loop in

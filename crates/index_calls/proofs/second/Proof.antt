@@ -6,6 +6,7 @@ use native.Mathlib.Omega.{arith}
 use borrow.Author.Needs.{needs}
 use Rattle.state.specs.State.{genuine}
 use Rattle.points.specs.Point.{numeratorOf, denominatorOf, slotOf}
+use Rattle.points.proofs.ArrayLaws.{axis-at}
 use Rattle.state.specs.State.{planIn}
 use Rattle.calls.proofs.CaseLaws.{foreign-of, known-of, second-foreign, second-out, second-done}
 use Rattle.calls.proofs.PointLaws.{axes-few, known-arrays, known-numerator, known-denominator, fraction-small}
@@ -36,30 +37,27 @@ slice-aggregate-numerator-2 c = search needs
 numerator-requires : tie.Need-numerator-requires
 numerator-requires c κs =
     let s = c .before .before .before .before .before in
-    (known-arrays _ (known s), omega arith, omega (arith, axes-few _ (known s)))
+    (axis-at (known-arrays _ (known s)) 0 (omega (arith, axes-few _ (known s))), omega arith)
 
 slice-aggregate-denominator : tie.Need-slice-aggregate-denominator
 slice-aggregate-denominator c = search needs
 
-slice-aggregate-denominator-2 : tie.Need-slice-aggregate-denominator-2
-slice-aggregate-denominator-2 c = search needs
-
 denominator-requires : tie.Need-denominator-requires
 denominator-requires c κs =
-    let s = c .before .before .before .before .before .before .before .before in
-    (known-arrays _ (known s), omega (arith, axes-few _ (known s)))
+    let s = c .before .before .before .before .before .before .before in
+    axis-at (known-arrays _ (known s)) 0 (omega (arith, axes-few _ (known s))) .base
 
 -- the numerator and the denominator that the code has are the plan's
 fraction : (c : tie.After-denominator) →
-    let a = c .before .before .before .before .before .before .before .before .before .before .before .args in
-    (c .before .before .before .numerator .result ≡ numeratorOf (planIn (a .s)) (a .n) 0) × (c .denominator .result ≡ denominatorOf (planIn (a .s)) 0)
+    let a = c .before .before .before .before .before .before .before .before .before .before .args in
+    (c .before .before .numerator .result ≡ numeratorOf (planIn (a .s)) (a .n) 0) × (c .denominator .result ≡ denominatorOf (planIn (a .s)) 0)
     × (numeratorOf (planIn (a .s)) (a .n) 0 < denominatorOf (planIn (a .s)) 0) × (denominatorOf (planIn (a .s)) 0 < 2 ^ 40)
 fraction c =
-    let s = c .before .before .before .before .before .before .before .before .before in
+    let s = c .before .before .before .before .before .before .before .before in
     let a = s .before .before .args in
     let low : 0 < a .s .axes = axes-few (a .s) (known s) .0 in
     let f = fraction-small (a .s) (known s) 0 low (a .n) in (
-      c .before .before .before .numerator .ensures ∙ known-numerator (a .s) (known s) 0 low (a .n),
+      c .before .before .numerator .ensures ∙ known-numerator (a .s) (known s) 0 low (a .n),
       c .denominator .ensures ∙ known-denominator (a .s) (known s) 0 low (a .n),
       f .0,
       f .1,
@@ -71,7 +69,7 @@ second-of-requires c κs = omega (arith, fraction c)
 returns-3 : tie.Need-returns-3
 unfolding slotOf
 returns-3 c =
-    let s = c .before .before .before .before .before .before .before .before .before .before in
+    let s = c .before .before .before .before .before .before .before .before .before in
     let f = fraction (c .before) in
     rw (c .second-of .ensures, f .0, f .1) (sym (second-done _ _ (known s) (omega arith)))
 
@@ -86,7 +84,6 @@ second-spec =
     slice-aggregate-numerator-2
     numerator-requires
     slice-aggregate-denominator
-    slice-aggregate-denominator-2
     denominator-requires
     second-of-requires
     returns-3)

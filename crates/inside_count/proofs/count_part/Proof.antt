@@ -4,7 +4,7 @@ use Prim.Native.Nat.{ℕ, _+_, _-_, _*_, _≤_, _<_}
 use native.Mathlib.Omega.{arith}
 use borrow.Author.Needs.{needs}
 use lib.ListN.{length}
-use Rattle.points.proofs.ArrayLaws.{denominator-at-lt}
+use Rattle.points.proofs.ArrayLaws.{axis-at, denominator-at-lt}
 use Rattle.window.specs.Counting.{cutAt}
 use Rattle.window.specs.Walking.{insideFrom}
 use Rattle.inside_count.specs.Flagging.{cutLimit, Flags}
@@ -28,7 +28,7 @@ loop-holds : tie.Need-loop-holds Inv-loop μ-loop
 loop-holds c = (omega arith, flags-none _ _ _ _ _ _ (omega arith), refl)
 
 denominator-requires : tie.Need-denominator-requires Inv-loop μ-loop
-denominator-requires c κs = (c .before .before .before .before .before .pre .0, omega arith)
+denominator-requires c κs = axis-at (c .before .before .before .before .before .pre .0) (c .before .loop .i) (omega arith) .base
 
 mul-cut-limit : tie.Need-mul-cut-limit Inv-loop μ-loop
 mul-cut-limit c = omega (arith, room (c .before))
@@ -56,7 +56,7 @@ cut-limit-requires c κs =
     let s = c .before .before .before .before .before .before .before .before in
     let i = c .before .before .before .before .loop .i in
     let d = c .before .before .denominator in
-    (s .pre .3 .u-small i (omega arith), s .pre .3 .q-pos i (omega arith), s .pre .3 .q-small i (omega arith), omega (arith, d .ensures, denominator-at-lt (s .pre .0) i (omega arith)))
+    (s .pre .3 .u-small i (omega arith), s .pre .3 .q-pos i (omega arith), s .pre .3 .q-small i (omega arith), omega (arith, d .ensures, denominator-at-lt (axis-at (s .pre .0) i (omega arith) .base)))
 
 slice-aggregate-mark-axis : tie.Need-slice-aggregate-mark-axis Inv-loop μ-loop
 slice-aggregate-mark-axis c = search needs
@@ -64,7 +64,8 @@ slice-aggregate-mark-axis c = search needs
 mark-axis-requires : tie.Need-mark-axis-requires Inv-loop μ-loop
 mark-axis-requires c κs =
     let s = c .before .before .before .before .before .before .before .before .before .before in
-    (s .pre .0, omega arith, omega arith, omega (arith, c .before .before .before .before .before .before .loop .inv .2))
+    let l = c .before .before .before .before .before .before .loop in
+    (axis-at (s .pre .0) (l .i) (omega arith), omega arith, omega (arith, l .inv .2))
 
 add-i : tie.Need-add-i Inv-loop μ-loop
 add-i c = omega (arith, c .before .before .before .before .before .before .before .before .before .before .before .before .pre .0 .few)

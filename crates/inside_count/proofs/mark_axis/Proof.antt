@@ -7,7 +7,7 @@ use Rattle.halton_blocks.specs.Filling.{haltonFrom}
 use Rattle.sobol_blocks.specs.Filling.{sobolFrom}
 use Rattle.marks.proofs.MarkLaws.{marked-as}
 use Rattle.points.specs.Arrays.{numeratorFrom}
-use Rattle.points.proofs.ArrayLaws.{base-range, numerator-by-part, numerator-by-base}
+use Rattle.points.proofs.ArrayLaws.{numerator-by-part, numerator-by-base}
 use Rattle.inside_count.proofs.FlagLaws.{directions-of}
 use Rattle.inside_count.proofs.mark_axis.Statement.{statement}
 use Rattle.inside_count.proofs.mark_axis.Tie as tie
@@ -33,7 +33,7 @@ part-sobol-marks-end c = search needs
 sobol-marks-requires : tie.Need-sobol-marks-requires
 sobol-marks-requires c κs =
     let s = c .before .before .before .before .before .before in
-    (directions-of (s .pre .0) (s .args .i) (omega arith) (omega arith) (search needs), omega arith, omega arith)
+    (directions-of (s .pre .0) (omega arith) (search needs), omega arith, omega arith)
 
 same-length : tie.Need-same-length
 same-length c = search needs
@@ -54,7 +54,7 @@ shared-slice-read-halton-marks c = search needs
 halton-marks-requires : tie.Need-halton-marks-requires
 halton-marks-requires c κs =
     let s = c .before .before .before .before .before .before in
-    omega (arith, base-range (s .pre .0) (s .args .i) (omega arith) (λ e. omega arith))
+    omega (arith, s .pre .0 .base .low (λ e. omega arith), s .pre .0 .base .high (λ e. omega arith))
 
 same-length-2 : tie.Need-same-length-2
 same-length-2 c = search needs

@@ -7,6 +7,7 @@ use native.Mathlib.Omega.{arith}
 use lib.ListN.{getD}
 use Rattle.numbers.proofs.ListedLaws.{Over, over-none, over-store, over-whole}
 use Rattle.points.specs.Arrays.{numeratorAt, pointAt}
+use Rattle.points.proofs.ArrayLaws.{axis-at}
 use Rattle.points.proofs.WordLaws.{point-at-word}
 use Rattle.points.proofs.advance.Statement.{statement}
 use Rattle.points.proofs.advance.Tie as tie
@@ -31,8 +32,7 @@ next-numerator-requires : tie.Need-next-numerator-requires Inv-loop μ-loop
 next-numerator-requires c κs =
     let s = c .before .before .before .before in
     let l = c .before .loop in (
-      s .pre .0,
-      omega arith,
+      axis-at (s .pre .0) (l .i) (omega arith),
       omega arith,
       l .inv .1 .rest (l .i) (omega arith) ∙ ap (λ (x : List ℕ). getD x (l .i) 0) (s .pre .2)
           ∙ point-at-word (s .args .family) (s .args .axes) (s .args .bases .now) (s .args .directions .now) (s .args .n) (l .i) (omega arith),

@@ -4,7 +4,7 @@ use mathlib.Core.Path.{sym, _∙_}
 use Prim.Native.Nat.{_+_}
 use native.Mathlib.Omega.{arith}
 use borrow.Author.Needs.{needs}
-use Rattle.points.proofs.ArrayLaws.{base-range, numerator-by-part, numerator-by-base}
+use Rattle.points.proofs.ArrayLaws.{numerator-by-part, numerator-by-base}
 use Rattle.points.proofs.next_numerator.Statement.{statement}
 use Rattle.points.proofs.next_numerator.Tie as tie
 
@@ -30,7 +30,7 @@ step-requires : tie.Need-step-requires
 step-requires c κs =
     let s = c .before .before .before .before in
     let a = s .args in
-    (search needs, omega arith, s .pre .3 ∙ sym (numerator-by-part (a .family) (a .bases .now) (a .directions .now) (a .n) (a .i) (omega arith)))
+    (search needs, omega arith, s .pre .2 ∙ sym (numerator-by-part (a .family) (a .bases .now) (a .directions .now) (a .n) (a .i) (omega arith)))
 
 returns : tie.Need-returns
 returns c =
@@ -46,17 +46,17 @@ shared-slice-read-b c = search needs
 denominator-requires : tie.Need-denominator-requires
 denominator-requires c κs =
     let s = c .before .before .before .before in
-    omega (arith, base-range (s .pre .0) (s .args .i) (omega arith) (λ e. omega arith))
+    (s .pre .0 .base .low (λ e. omega arith), s .pre .0 .base .high (λ e. omega arith))
 
 step-requires-2 : tie.Need-step-requires-2
 step-requires-2 c κs =
     let s = c .before .before .before .before .before in
     let a = s .args in
-    let range = base-range (s .pre .0) (a .i) (omega arith) (λ e. omega arith) in (
-      range .0,
-      range .1,
+    let base = s .pre .0 .base in (
+      base .low (λ e. omega arith),
+      base .high (λ e. omega arith),
       c .denominator .ensures,
-      s .pre .3 ∙ sym (numerator-by-base (a .family) (a .bases .now) (a .directions .now) (a .n) (a .i) (λ e. omega arith)),
+      s .pre .2 ∙ sym (numerator-by-base (a .family) (a .bases .now) (a .directions .now) (a .n) (a .i) (λ e. omega arith)),
     )
 
 returns-2 : tie.Need-returns-2

@@ -3,7 +3,8 @@
 use mathlib.Core.Path.{_∙_}
 use native.Mathlib.Omega.{arith}
 use borrow.Author.Needs.{needs}
-use Rattle.points.proofs.ArrayLaws.{base-range, numerator-by-part, numerator-by-base}
+use Rattle.halton.proofs.ImageLaws.{numerator-by-family}
+use Rattle.points.proofs.ArrayLaws.{numerator-by-part, numerator-by-base}
 use Rattle.points.proofs.numerator.Statement.{statement}
 use Rattle.points.proofs.numerator.Tie as tie
 
@@ -39,15 +40,21 @@ mul-jump-2 c = search needs
 shared-slice-read-jump : tie.Need-shared-slice-read-jump
 shared-slice-read-jump c = search needs
 
+slice-aggregate-jump : tie.Need-slice-aggregate-jump
+slice-aggregate-jump c = search needs
+
 jump-requires-2 : tie.Need-jump-requires-2
 jump-requires-2 c κs =
-    let s = c .before .before .before .before in
-    omega (arith, base-range (s .pre .0) (s .args .i) (omega arith) (λ e. omega arith))
+    let s = c .before .before .before .before .before in
+    let low = s .pre .0 .base .low (λ e. omega arith) in
+    (low, s .pre .0 .base .high (λ e. omega arith), omega arith, search needs)
 
 returns-2 : tie.Need-returns-2
 returns-2 c =
-    let a = c .before .before .before .before .before .args in
-    c .jump2 .ensures ∙ numerator-by-base (a .family) (a .bases .now) (a .directions .now) (a .n) (a .i) (λ e. omega arith)
+    let s = c .before .before .before .before .before .before in
+    let a = s .args in
+    let low = s .pre .0 .base .low (λ e. omega arith) in
+    c .jump2 .ensures ∙ numerator-by-family _ _ (omega arith) _ ∙ numerator-by-base (a .family) (a .bases .now) (a .directions .now) (a .n) (a .i) (λ e. omega arith)
 
 pub numerator-spec : {M : Type 1} → statement M
 numerator-spec =
@@ -63,5 +70,6 @@ numerator-spec =
     returns
     mul-jump-2
     shared-slice-read-jump
+    slice-aggregate-jump
     jump-requires-2
     returns-2)

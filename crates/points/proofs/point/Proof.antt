@@ -8,6 +8,7 @@ use lib.ListN.{length, set, length-set}
 use Rattle.numbers.specs.Listed.{listed, padded}
 use Rattle.numbers.proofs.ListedLaws.{listed-store}
 use Rattle.points.specs.Arrays.{numeratorAt, pointAt}
+use Rattle.points.proofs.ArrayLaws.{axis-at}
 use Rattle.points.proofs.point.Statement.{statement}
 use Rattle.points.proofs.point.Tie as tie
 
@@ -24,7 +25,7 @@ loop-holds c = (omega arith, refl, refl)
 
 numerator-requires : tie.Need-numerator-requires Inv-loop μ-loop
 numerator-requires c κs =
-    (c .before .before .before .before .pre .0, omega arith, omega arith)
+    (axis-at (c .before .before .before .before .pre .0) (c .before .loop .i) (omega arith), omega arith)
 
 mul-x : tie.Need-mul-x Inv-loop μ-loop
 mul-x c = omega arith

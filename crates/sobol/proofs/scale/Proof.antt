@@ -1,24 +1,30 @@
 -- `sobol::scale` meets its contract. The loop's invariant: every v passed is its m times its power of two. A shift loses nothing, since the m's are
 -- below their powers of two. Assumes nothing.
 use mathlib.Core.Path.{_≡_, refl, sym, _∙_}
-use Prim.Native.Nat.{ℕ, _-_, _*_, _^_, _≤_, _<_}
+use mathlib.Core.List.{List}
+use Prim.Native.Nat.{ℕ, _-_, _*_, _^_, _≤_}
 use native.Mathlib.Omega.{arith}
-use native.Mathlib.Nat.{not-suc-le-zero}
 use lib.ListN.{getD, length, length-set}
 use lib.Seq.{ext-getD}
+use Rattle.numbers.specs.Listed.{Begins}
+use Rattle.numbers.proofs.ListedLaws.{begins-none, begins-more}
 use Rattle.sobol.specs.Directions.{scaled}
-use Rattle.sobol.proofs.DirectionLaws.{shifted-exact, scaled-length, scaled-at, set-more}
+use Rattle.sobol.proofs.DirectionLaws.{shifted-exact, scaled-length, scaled-at}
 use Rattle.sobol.proofs.scale.Statement.{statement}
 use Rattle.sobol.proofs.scale.Tie as tie
 
+-- v_(k+1) by the m's
+abbrev word : List ℕ → ℕ → ℕ
+word m k = getD m k 0 * 2 ^ (31 - k)
+
 abbrev Inv-loop : tie.InvT-loop
-Inv-loop m v₀ i₀ v i = (i ≤ 32) × (length v ≡ 32) × ((k : ℕ) → k < i → getD v k 0 ≡ getD m k 0 * 2 ^ (31 - k))
+Inv-loop m v₀ i₀ v i = (i ≤ 32) × (length v ≡ 32) × Begins (word m) i v
 
 abbrev μ-loop : tie.MeasureT-loop
 μ-loop m v₀ i₀ v i = 32 - i
 
 loop-holds : tie.Need-loop-holds Inv-loop μ-loop
-loop-holds c = (omega arith, refl, λ k h. absurd (not-suc-le-zero h))
+loop-holds c = (omega arith, refl, begins-none _ _)
 
 mul-v : tie.Need-mul-v Inv-loop μ-loop
 mul-v c = omega arith
@@ -50,8 +56,7 @@ loop-again c =
     let l = c .before .loop in (
       omega arith,
       length-set (l .v) (l .i) _ ∙ l .inv .1,
-      set-more (λ (k : ℕ). getD m k 0 * 2 ^ (31 - k)) (l .v) (l .i) _ (omega arith)
-          (shifted-exact 32 m (l .i) (31 - l .i) (c .before .before .pre) (omega arith) (omega arith)) (l .inv .2),
+      begins-more (l .inv .2) (omega arith) (shifted-exact 32 m (l .i) (31 - l .i) (c .before .before .pre) (omega arith) (omega arith)),
     )
 
 returns : tie.Need-returns Inv-loop μ-loop
@@ -59,7 +64,7 @@ returns c =
     let m = c .before .before .args .t1 in
     let l = c .before .loop in
     let n : length m ≡ 32 = c .before .before .good .0 .1 .0 .1 in
-    ext-getD 0 (l .v) (scaled 0 m) (l .inv .1 ∙ sym (scaled-length 0 m ∙ n)) (λ k h. l .inv .2 k (omega arith) ∙ sym (scaled-at m k))
+    ext-getD 0 (l .v) (scaled 0 m) (l .inv .1 ∙ sym (scaled-length 0 m ∙ n)) (λ k h. l .inv .2 .at k (omega arith) ∙ sym (scaled-at m k))
 
 pub scale-spec : {M : Type 1} → statement M
 scale-spec =

@@ -1,10 +1,9 @@
 -- `sobol_marks::tiles` meets its contract: the flags up to i are tested, and each part is a run of the table. Assumes nothing.
-use mathlib.Core.Path.{ap, _∙_}
-use Prim.Native.Nat.{ℕ, _-_, _≤_}
+use Prim.Native.Nat.{_-_, _≤_}
 use native.Mathlib.Omega.{arith}
 use denote.Ref.{now}
-use Rattle.sobol_tables.specs.Tables.{xored}
-use Rattle.sobol_tables.proofs.TableLaws.{tile-at, table-pos, point-low}
+use Rattle.columns.proofs.TileLaws.{table-pos, tile-run}
+use Rattle.sobol_tables.proofs.TableLaws.{stepped-splits, point-low}
 use Rattle.sobol_blocks.specs.Filling.{sobolFrom}
 use Rattle.marks.specs.Marking.{Marked}
 use Rattle.marks.proofs.MarkLaws.{marked-none, marked-to, marked-as, marked-join}
@@ -24,7 +23,7 @@ add-tile-at : tie.Need-add-tile-at Inv-loop μ-loop
 add-tile-at c = omega arith
 
 tile-at-requires : tie.Need-tile-at-requires Inv-loop μ-loop
-tile-at-requires c κs = omega (arith, table-pos (c .before .before .before .before .before .pre .0 .3))
+tile-at-requires c κs = omega (arith, table-pos (c .before .before .before .before .before .pre .0 .3) (omega arith))
 
 add-jump : tie.Need-add-jump Inv-loop μ-loop
 add-jump c = omega arith
@@ -52,11 +51,10 @@ loop-again c =
     let s = c .before .before .before .before .before .before .before .before .before .before .before in
     let a = s .args in
     let l = c .before .before .before .before .before .before .before .loop in
-    let e = c .before .before .before .before .before .tile-at .ensures in
-    let r = c .before .before .before .before .before .tile-at .result .place in (
+    let e = c .before .before .before .before .before .tile-at .ensures in (
       e .in-rows,
       marked-join (l .inv .1)
-          (marked-as (c .before .before .run .ensures) (sobolFrom (now (a .v)) (a .n)) (λ k h q. ap (λ (y : ℕ). xored y (now (a .t)) (l .i) r k) (c .before .before .before .before .jump .ensures) ∙ rw (e .remainder) (tile-at (s .pre .0 .3) (a .n) (l .i) k h (omega (arith, e)))))
+          (marked-as (c .before .before .run .ensures) (sobolFrom (now (a .v)) (a .n)) (tile-run (s .pre .0 .3) (stepped-splits (now (a .v))) (a .n) e (c .before .before .before .before .jump .ensures)))
           (omega arith) (omega (arith, e .further)),
     )
 

@@ -1,17 +1,19 @@
 -- `tables::first_points` meets its contract: the entries up to d are points. Assumes nothing.
-use mathlib.Core.Path.{_≡_, refl, _∙_, subst}
-use Prim.Native.Nat.{ℕ, _-_, _*_, _^_, _≤_, _<_}
+use mathlib.Core.Path.{_≡_, refl, _∙_}
+use Prim.Native.Nat.{_-_, _*_, _^_, _≤_, _<_}
 use native.Mathlib.Omega.{arith}
 use denote.Ref.{now}
 use lib.ListN.{length, length-set}
-use Rattle.images.specs.Images.{imageIn}
-use Rattle.tables.specs.Tables.{Starts}
-use Rattle.tables.proofs.TableLaws.{point-below, starts-none, starts-more, first-digit, table-first}
+use Rattle.numbers.specs.Listed.{Begins}
+use Rattle.numbers.proofs.ListedLaws.{begins-none, begins-more, begins-less}
+use Rattle.halton.specs.Axis.{numerator}
+use Rattle.halton.specs.Images.{imageIn}
+use Rattle.tables.proofs.TableLaws.{point-below, first-digit, table-first}
 use Rattle.tables.proofs.first_points.Statement.{statement}
 use Rattle.tables.proofs.first_points.Tie as tie
 
 abbrev Inv-loop : tie.InvT-loop
-Inv-loop b l w t₀ end d₀ t d = (d ≤ b) × Starts (imageIn l) b d t × (length t ≡ length t₀)
+Inv-loop b l w t₀ end d₀ t d = (d ≤ b) × Begins (numerator (imageIn l) b) d t × (length t ≡ length t₀)
 
 abbrev μ-loop : tie.MeasureT-loop
 μ-loop b l w t₀ end d₀ t d = b - d
@@ -25,7 +27,7 @@ small c =
     rw (first-digit (s .pre .3) (omega arith) (s .args .w) (c .before .before .loop .d) (s .pre .5) (omega arith)) (point-below (s .pre .3) (omega arith) (omega arith) _)
 
 loop-holds : tie.Need-loop-holds Inv-loop μ-loop
-loop-holds c = (omega arith, starts-none _ _ _, refl)
+loop-holds c = (omega arith, begins-none _ _, refl)
 
 shared-slice-read-t : tie.Need-shared-slice-read-t Inv-loop μ-loop
 shared-slice-read-t c = omega arith
@@ -53,7 +55,7 @@ loop-again c =
     let s = c .before .before .before in
     let l = c .before .before .loop in (
       omega arith,
-      starts-more (imageIn (now (s .args .l))) (s .args .b) (l .d) (l .t) _ (l .inv .1) (omega (arith, l .inv .2)) (first-digit (s .pre .3) (omega arith) (s .args .w) (l .d) (s .pre .5) (omega arith)),
+      begins-more (l .inv .1) (omega (arith, l .inv .2)) (first-digit (s .pre .3) (omega arith) (s .args .w) (l .d) (s .pre .5) (omega arith)),
       length-set (l .t) (l .d) _ ∙ l .inv .2,
     )
 
@@ -64,7 +66,7 @@ returns : tie.Need-returns Inv-loop μ-loop
 returns c =
     let a = c .before .before .args in
     let l = c .before .loop in
-    (table-first (subst (λ (y : ℕ). Starts (imageIn (now (a .l))) (a .b) y (l .t)) {x = l .d} {y = a .b} (omega arith) (l .inv .1)), l .inv .2)
+    (table-first (begins-less (l .inv .1) (a .b) (omega arith)), l .inv .2)
 
 pub first-points-spec : {M : Type 1} → statement M
 first-points-spec =

@@ -1,18 +1,20 @@
 -- `tables::grow` meets its contract: after the parts of the digits below d the table has d times as many points. Assumes nothing.
-use mathlib.Core.Path.{_≡_, refl, _∙_, subst}
-use Prim.Native.Nat.{ℕ, _+_, _-_, _*_, _^_, _≤_, _<_}
+use mathlib.Core.Path.{_≡_, refl, _∙_}
+use Prim.Native.Nat.{_+_, _-_, _*_, _^_, _≤_, _<_}
 use native.Mathlib.Omega.{arith}
 use denote.Ref.{now}
 use lib.ListN.{length}
-use Rattle.images.specs.Images.{imageIn}
-use Rattle.tables.specs.Tables.{Starts}
+use Rattle.numbers.specs.Listed.{Begins}
+use Rattle.numbers.proofs.ListedLaws.{begins-less}
+use Rattle.halton.specs.Axis.{numerator}
+use Rattle.halton.specs.Images.{imageIn}
 use Rattle.tables.proofs.TableLaws.{point-below, part-first, part-more, table-more, table-start}
 use native.Mathlib.Nat.{mul-le-mul-right, mul-comm, add-mul}
 use Rattle.tables.proofs.grow.Statement.{statement}
 use Rattle.tables.proofs.grow.Tie as tie
 
 abbrev Inv-loop : tie.InvT-loop
-Inv-loop b l w size t₀ d₀ t d = (1 ≤ d) × (d ≤ b) × Starts (imageIn l) b (d * size) t × (length t ≡ length t₀)
+Inv-loop b l w size t₀ d₀ t d = (1 ≤ d) × (d ≤ b) × Begins (numerator (imageIn l) b) (d * size) t × (length t ≡ length t₀)
 
 abbrev μ-loop : tie.MeasureT-loop
 μ-loop b l w size t₀ d₀ t d = b - d
@@ -25,7 +27,7 @@ small c =
     let s = c .before .before .before .before in
     let a = s .args in
     let t = s .pre .1 .3 in
-    rw (part-first (s .pre .0 .3) (omega arith) (t .exponent) (a .size) (a .w) (c .before .loop .d) (t .is) (s .pre .1 .2) (omega arith)) (point-below (s .pre .0 .3) (omega arith) (omega arith) _)
+    rw (part-first (s .pre .0 .3) (omega arith) (t .power .exponent) (a .size) (a .w) (c .before .loop .d) (t .power .is) (s .pre .1 .2) (omega arith)) (point-below (s .pre .0 .3) (omega arith) (omega arith) _)
 
 -- the next part lies behind the first and within the table
 place : (c : tie.In-loop Inv-loop μ-loop) →
@@ -54,12 +56,11 @@ mul-spread-2 : tie.Need-mul-spread-2 Inv-loop μ-loop
 mul-spread-2 c = omega (arith, place (c .before))
 
 spread-requires : tie.Need-spread-requires Inv-loop μ-loop
-unfolding Starts
 spread-requires c κs =
     let s = c .before .before .before .before .before .before in
     let a = s .args in
     let l = c .before .before .before .loop in
-    (small (c .before .before), omega (arith, place (c .before .before)), omega (arith, place (c .before .before)), λ r h. rw (l .inv .2 r (omega (arith, place (c .before .before)))) (point-below (s .pre .0 .3) (omega arith) (omega arith) r))
+    (small (c .before .before), omega (arith, place (c .before .before)), omega (arith, place (c .before .before)), λ r h. rw (l .inv .2 .at r (omega (arith, place (c .before .before)))) (point-below (s .pre .0 .3) (omega arith) (omega arith) r))
 
 add-d : tie.Need-add-d Inv-loop μ-loop
 add-d c = omega arith
@@ -76,7 +77,7 @@ loop-again c =
     let e = c .before .before .spread .ensures in (
       omega arith,
       omega arith,
-      part-more (s .pre .0 .3) (omega arith) (t .exponent) (a .size) (a .w) (l .d) (t .is) (s .pre .1 .2) (omega arith) (l .inv .2) (omega arith) e,
+      part-more (s .pre .0 .3) (omega arith) (t .power .exponent) (a .size) (a .w) (l .d) (t .power .is) (s .pre .1 .2) (omega arith) (l .inv .2) (omega arith) e,
       e .same-length ∙ l .inv .3,
     )
 
@@ -87,7 +88,7 @@ returns : tie.Need-returns Inv-loop μ-loop
 returns c =
     let a = c .before .before .before .before .args in
     let l = c .before .loop in
-    (table-more (c .before .before .before .before .pre .1 .3) (subst (λ (y : ℕ). Starts (imageIn (now (a .l))) (a .b) (y * a .size) (l .t)) {x = l .d} {y = a .b} (omega arith) (l .inv .2)), l .inv .3)
+    (table-more (c .before .before .before .before .pre .1 .3) (begins-less (l .inv .2) (a .b * a .size) (mul-le-mul-right {m = a .b} {n = l .d} (a .size) (omega arith))), l .inv .3)
 
 pub grow-spec : {M : Type 1} → statement M
 grow-spec =

@@ -4,15 +4,17 @@ use Prim.Native.Nat.{ℕ, _-_, _*_, _/_, _≤_}
 use native.Mathlib.Omega.{arith}
 use lib.ListN.{length}
 use Rattle.numbers.specs.Depth.{denominator}
-use Rattle.images.specs.Images.{imageIn}
-use Rattle.tables.specs.Tables.{Table}
-use Rattle.tables.proofs.TableLaws.{first-weight, table-weight, table-pos}
+use Rattle.halton.specs.Axis.{numerator}
+use Rattle.halton.specs.Images.{imageIn}
+use Rattle.columns.specs.Tiles.{Table}
+use Rattle.columns.proofs.TileLaws.{table-pos}
+use Rattle.tables.proofs.TableLaws.{first-weight, table-weight}
 use native.Mathlib.Nat.{mul-le-mul, mul-le-mul-left, mul-assoc, mul-comm}
 use Rattle.tables.proofs.table.Statement.{statement}
 use Rattle.tables.proofs.table.Tie as tie
 
 abbrev Inv-loop : tie.InvT-loop
-Inv-loop b l limit t₀ w₀ size₀ t w size = (size ≤ 256) × (w * size ≡ denominator b) × Table (imageIn l) b size t × (length t ≡ length t₀)
+Inv-loop b l limit t₀ w₀ size₀ t w size = (size ≤ 256) × (w * size ≡ denominator b) × Table (numerator (imageIn l) b) b size t × (length t ≡ length t₀)
 
 abbrev μ-loop : tie.MeasureT-loop
 μ-loop b l limit t₀ w₀ size₀ t w size = 257 - size

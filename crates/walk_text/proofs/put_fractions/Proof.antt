@@ -1,12 +1,11 @@
 -- After i turns the fractions of the first i axes are put, in at most 28 bytes each. Assumes nothing.
-use borrow.Author.Needs.{needs}
 use mathlib.Core.Path.{_≡_, subst}
 use Prim.Native.Nat.{ℕ, _+_, _*_, _-_, _≤_}
 use native.Mathlib.Omega.{arith}
 use Rattle.text.specs.Put.{TextPut}
 use Rattle.walk_text.specs.Parts.{fractionsAt}
 use Rattle.walk_text.proofs.PutLaws.{no-fraction, next-fraction}
-use Rattle.walk_text.proofs.ArrayLaws.{numerator-at-lt, denominator-at-lt}
+use Rattle.points.proofs.ArrayLaws.{axis-at, numerator-at-lt, denominator-at-lt}
 use Rattle.walk_text.proofs.put_fractions.Statement.{statement}
 use Rattle.walk_text.proofs.put_fractions.Tie as tie
 
@@ -22,17 +21,22 @@ loop-holds c =
     (omega arith, omega arith, no-fraction (a .family) (a .bases .now) (a .directions .now) (a .n) (a .out .now) (a .start))
 
 numerator-requires : tie.Need-numerator-requires Inv-loop μ-loop
-numerator-requires c κs = search needs
+numerator-requires c κs =
+    let l = c .before in
+    (axis-at (l .before .before .before .before .pre .0) (l .loop .i) (omega arith), omega arith)
 
 denominator-requires : tie.Need-denominator-requires Inv-loop μ-loop
-denominator-requires c κs = search needs
+denominator-requires c κs =
+    let l = c .before .before in
+    axis-at (l .before .before .before .before .pre .0) (l .loop .i) (omega arith) .base
 
 put-fraction-requires : tie.Need-put-fraction-requires Inv-loop μ-loop
 put-fraction-requires c κs =
     let l = c .before .before .before .before in
     let s = l .before .before .before .before in
     let i = l .loop .i in
-    omega (arith, numerator-at-lt (s .pre .0) i (omega arith) (s .args .n), denominator-at-lt (s .pre .0) i (omega arith))
+    let a = axis-at (s .pre .0) i (omega arith) in
+    omega (arith, numerator-at-lt a (s .args .n), denominator-at-lt (a .base))
 
 add-i : tie.Need-add-i Inv-loop μ-loop
 add-i c = omega arith
