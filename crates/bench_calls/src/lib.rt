@@ -1,7 +1,9 @@
 // The calls on a state in loops, for the benchmark: each function reads its plan once and then makes one call so many times. No customer calls
 // these, so their contracts say only that they end without a fault.
+use calls::Moved;
 use state::Sampler;
-ghost use Prim.Native.Nat.{_≤_};
+ghost use mathlib.Core.Path.{_≡_};
+ghost use Rattle.calls.specs.Calls.{stepSpec, stepBuf};
 
 // The state of a plan with a run opened.
 fn opened(plan: &[u8], start: u64, count: u64) -> Sampler {
@@ -72,6 +74,15 @@ pub extern "C" fn bench_steps(plan: &[u8], start: u64, rounds: u64, out: &mut [u
     code
 }
 
+// A step in place: the sampler, a local here, is lent to it and holds the next state afterwards.
+fn wake(s: Sampler, point: &mut [u64]) -> Moved
+    ensures { λ r. ⌜ (r ≡ stepSpec s (now (point .entry))) × (now (point .exit) ≡ stepBuf s (now (point .entry))) ⌝ }
+{
+    let mut own = s;
+    let code = run_calls::step_in_place(&mut own, point);
+    Moved { code, state: own }
+}
+
 // The same in place: the state is lent to each step.
 #[no_mangle]
 pub extern "C" fn bench_steps_in_place(
@@ -84,7 +95,7 @@ pub extern "C" fn bench_steps_in_place(
     let mut code = 0;
     let mut i = 0;
     while i < rounds {
-        let r = waking::wake(s, out);
+        let r = wake(s, out);
         code = r.code;
         s = r.state;
         i += 1;

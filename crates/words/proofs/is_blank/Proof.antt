@@ -1,6 +1,5 @@
 -- A space, or else a tab. Assumes nothing.
 use mathlib.Core.Path.{refl}
-use native.Mathlib.Omega.{arith}
 use borrow.Author.Tests.{eq-eqb, ne-eqb}
 use Rattle.words.specs.Word.{isBlank}
 use Rattle.words.proofs.is_blank.Statement.{statement}
