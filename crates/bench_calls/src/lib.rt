@@ -1,6 +1,6 @@
 // The calls on a state in loops, for the benchmark: each function reads its plan once and then makes one call so many times.
-use calls::Moved;
-use state::Sampler;
+use sampler::Moved;
+use sampler::Sampler;
 ghost use mathlib.Core.Path.{_≡_};
 ghost use Rattle.calls.specs.Calls.{stepSpec, stepBuf};
 ghost use Rattle.bench_calls.specs.Rounds.{openedState, blocksOf, jumpsOf, axisJumpsOf, stepsOf, countsOf};
@@ -9,8 +9,8 @@ ghost use Rattle.bench_calls.specs.Rounds.{openedState, blocksOf, jumpsO
 fn opened(plan: &[u8], start: u64, count: u64) -> Sampler
     ensures { λ r. ⌜ r ≡ openedState (now (plan .entry)) start count ⌝ }
 {
-    let r = plan_calls::read(plan);
-    let o = plan_calls::open(r.state, start, count);
+    let r = sampler::read(plan);
+    let o = sampler::open(r.state, start, count);
     o.state
 }
 
@@ -23,7 +23,7 @@ pub extern "C" fn bench_blocks(plan: &[u8], start: u64, rounds: u64, out: &mut [
     let mut points = 0;
     let mut i = 0;
     while i < rounds {
-        let b = run_calls::block(s, out);
+        let b = sampler::block(s, out);
         points = b.points;
         i += 1;
     }
@@ -39,7 +39,7 @@ pub extern "C" fn bench_jumps(plan: &[u8], first: u64, rounds: u64, out: &mut [u
     let mut code = 0;
     let mut i = 0;
     while i < rounds {
-        let j = index_calls::jump(s, (first ^ i) % 4294967296, out);
+        let j = sampler::jump(s, (first ^ i) % 4294967296, out);
         code = j.code;
         i += 1;
     }
@@ -76,7 +76,7 @@ pub extern "C" fn bench_steps(plan: &[u8], start: u64, rounds: u64, out: &mut [u
     let mut code = 0;
     let mut i = 0;
     while i < rounds {
-        let r = run_calls::step(s, out);
+        let r = sampler::step(s, out);
         code = r.code;
         s = r.state;
         i += 1;
@@ -89,7 +89,7 @@ fn wake(s: Sampler, point: &mut [u64]) -> Moved
     ensures { λ r. ⌜ (r ≡ stepSpec s (now (point .entry))) × (now (point .exit) ≡ stepBuf s (now (point .entry))) ⌝ }
 {
     let mut own = s;
-    let code = run_calls::step_in_place(&mut own, point);
+    let code = sampler::step_in_place(&mut own, point);
     Moved { code, state: own }
 }
 
@@ -125,7 +125,7 @@ pub extern "C" fn bench_counts(
     let mut inside = 0;
     let mut i = 0;
     while i < rounds {
-        let r = window_count::count(s, window);
+        let r = sampler::count(s, window);
         inside = r.inside;
         i += 1;
     }

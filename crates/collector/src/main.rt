@@ -1,7 +1,7 @@
 // A collector's main loop: one sampler, lent once, which each turn steps where it lies; each turn writes a line.
-use calls::Moved;
 use libc::STDOUT_FILENO;
-use state::Sampler;
+use sampler::Moved;
+use sampler::Sampler;
 ghost use mathlib.Core.Path.{_≡_};
 ghost use Rattle.collector.specs.Serving.{ended, served};
 
