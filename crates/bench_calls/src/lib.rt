@@ -1,37 +1,45 @@
-// The calls on a state in loops, for the benchmark: each function reads its plan once and then makes one call so many times. No customer calls
-// these, so their contracts say only that they end without a fault.
-use state::Sampler;
-ghost use Prim.Native.Nat.{_≤_};
+// The calls on a state in loops, for the benchmark: each function reads its plan once and then makes one call so many times.
+use sampler::Moved;
+use sampler::Sampler;
+ghost use mathlib.Core.Path.{_≡_};
+ghost use Rattle.calls.specs.Calls.{stepSpec, stepBuf};
+ghost use Rattle.bench_calls.specs.Rounds.{openedState, blocksOf, jumpsOf, axisJumpsOf, stepsOf, countsOf};
 
 // The state of a plan with a run opened.
-fn opened(plan: &[u8], start: u64, count: u64) -> Sampler {
-    let r = plan_calls::read(plan);
-    let o = plan_calls::open(r.state, start, count);
+fn opened(plan: &[u8], start: u64, count: u64) -> Sampler
+    ensures { λ r. ⌜ r ≡ openedState (now (plan .entry)) start count ⌝ }
+{
+    let r = sampler::read(plan);
+    let o = sampler::open(r.state, start, count);
     o.state
 }
 
-// Fills `out` by a block, `rounds` times from the same state. Answers how many points one block has.
+// Fills `out` by a block, `rounds` times from the same state. Answers how many points the last block has.
 #[no_mangle]
-pub extern "C" fn bench_blocks(plan: &[u8], start: u64, rounds: u64, out: &mut [u64]) -> u64 {
+pub extern "C" fn bench_blocks(plan: &[u8], start: u64, rounds: u64, out: &mut [u64]) -> u64
+    ensures { λ r. ⌜ (r ≡ blocksOf (openedState (now (plan .entry)) start 1048576) rounds (now (out .entry)) .answer) × (now (out .exit) ≡ blocksOf (openedState (now (plan .entry)) start 1048576) rounds (now (out .entry)) .words) ⌝ }
+{
     let s = opened(plan, start, 1048576);
     let mut points = 0;
     let mut i = 0;
     while i < rounds {
-        let b = run_calls::block(s, out);
+        let b = sampler::block(s, out);
         points = b.points;
         i += 1;
     }
     points
 }
 
-// Jumps to `rounds` indexes. Answers the last refusal's number or 0.
+// Jumps to `rounds` indexes. Answers the last jump's number.
 #[no_mangle]
-pub extern "C" fn bench_jumps(plan: &[u8], first: u64, rounds: u64, out: &mut [u64]) -> u64 {
+pub extern "C" fn bench_jumps(plan: &[u8], first: u64, rounds: u64, out: &mut [u64]) -> u64
+    ensures { λ r. ⌜ (r ≡ jumpsOf (openedState (now (plan .entry)) 0 0) first rounds (now (out .entry)) .answer) × (now (out .exit) ≡ jumpsOf (openedState (now (plan .entry)) 0 0) first rounds (now (out .entry)) .words) ⌝ }
+{
     let s = opened(plan, 0, 0);
     let mut code = 0;
     let mut i = 0;
     while i < rounds {
-        let j = index_calls::jump(s, (first ^ i) % 4294967296, out);
+        let j = sampler::jump(s, (first ^ i) % 4294967296, out);
         code = j.code;
         i += 1;
     }
@@ -40,7 +48,9 @@ pub extern "C" fn bench_jumps(plan: &[u8], first: u64, rounds: u64, out: &mut [u
 
 // Jumps to `rounds` indexes on one Halton axis, with no state and no test. Answers the numerators' exclusive or.
 #[no_mangle]
-pub extern "C" fn bench_axis_jumps(family: u64, b: u64, first: u64, rounds: u64) -> u64 {
+pub extern "C" fn bench_axis_jumps(family: u64, b: u64, first: u64, rounds: u64) -> u64
+    ensures { λ r. ⌜ r ≡ axisJumpsOf family b first rounds ⌝ }
+{
     if b < 2 {
         return 0;
     }
@@ -57,14 +67,16 @@ pub extern "C" fn bench_axis_jumps(family: u64, b: u64, first: u64, rounds: u64)
     x
 }
 
-// Takes `rounds` steps of a run. Answers the last refusal's number or 0.
+// Takes `rounds` steps of a run. Answers the last step's number.
 #[no_mangle]
-pub extern "C" fn bench_steps(plan: &[u8], start: u64, rounds: u64, out: &mut [u64]) -> u64 {
+pub extern "C" fn bench_steps(plan: &[u8], start: u64, rounds: u64, out: &mut [u64]) -> u64
+    ensures { λ r. ⌜ (r ≡ stepsOf (openedState (now (plan .entry)) start rounds) rounds (now (out .entry)) .answer) × (now (out .exit) ≡ stepsOf (openedState (now (plan .entry)) start rounds) rounds (now (out .entry)) .words) ⌝ }
+{
     let mut s = opened(plan, start, rounds);
     let mut code = 0;
     let mut i = 0;
     while i < rounds {
-        let r = run_calls::step(s, out);
+        let r = sampler::step(s, out);
         code = r.code;
         s = r.state;
         i += 1;
@@ -72,19 +84,25 @@ pub extern "C" fn bench_steps(plan: &[u8], start: u64, rounds: u64, out: &mut [u
     code
 }
 
+// A step in place: the sampler, a local here, is lent to it and holds the next state afterwards.
+fn wake(s: Sampler, point: &mut [u64]) -> Moved
+    ensures { λ r. ⌜ (r ≡ stepSpec s (now (point .entry))) × (now (point .exit) ≡ stepBuf s (now (point .entry))) ⌝ }
+{
+    let mut own = s;
+    let code = sampler::step_in_place(&mut own, point);
+    Moved { code, state: own }
+}
+
 // The same in place: the state is lent to each step.
 #[no_mangle]
-pub extern "C" fn bench_steps_in_place(
-    plan: &[u8],
-    start: u64,
-    rounds: u64,
-    out: &mut [u64],
-) -> u64 {
+pub extern "C" fn bench_steps_in_place(plan: &[u8], start: u64, rounds: u64, out: &mut [u64]) -> u64
+    ensures { λ r. ⌜ (r ≡ stepsOf (openedState (now (plan .entry)) start rounds) rounds (now (out .entry)) .answer) × (now (out .exit) ≡ stepsOf (openedState (now (plan .entry)) start rounds) rounds (now (out .entry)) .words) ⌝ }
+{
     let mut s = opened(plan, start, rounds);
     let mut code = 0;
     let mut i = 0;
     while i < rounds {
-        let r = waking::wake(s, out);
+        let r = wake(s, out);
         code = r.code;
         s = r.state;
         i += 1;
@@ -100,12 +118,14 @@ pub extern "C" fn bench_counts(
     count: u64,
     window: &[u64],
     rounds: u64,
-) -> u64 {
+) -> u64
+    ensures { λ r. ⌜ r ≡ countsOf (openedState (now (plan .entry)) start count) (now (window .entry)) rounds ⌝ }
+{
     let s = opened(plan, start, count);
     let mut inside = 0;
     let mut i = 0;
     while i < rounds {
-        let r = window_count::count(s, window);
+        let r = sampler::count(s, window);
         inside = r.inside;
         i += 1;
     }

@@ -56,6 +56,9 @@ module _ (p : Plan) (v : Valid p) (r : Run) (fits : inRange r ≡ true) where
       pub step-over : stepSpec (made p r taken) buf ≡ moved 12 (made p r taken)
       step-over = step-refused (made p r taken) buf 11 over .0
 
+      pub step-over-words : stepBuf (made p r taken) buf ≡ buf
+      step-over-words = step-refused (made p r taken) buf 11 over .1
+
       pub block-over : blockSpec (made p r taken) buf ≡ blocked 12 0 (made p r taken)
       block-over = block-refused (made p r taken) buf 11 over .0
 

@@ -1,27 +1,49 @@
-// A collector's main loop, five wakings of it: one sampler, which each step moves on in place.
+// A collector's main loop: one sampler, lent once, which each turn steps where it lies; each turn writes a line.
 use libc::STDOUT_FILENO;
-use state::Sampler;
+use sampler::Moved;
+use sampler::Sampler;
+ghost use mathlib.Core.Path.{_≡_};
+ghost use Rattle.collector.specs.Serving.{ended, served};
 
-// Wakes, and writes a line: the number that came, and the point's numerators.
-fn report(s: Sampler) -> Sampler {
-    let mut point = [0u64; 2];
-    let r = waking::wake(s, &mut point);
-    io::print_decimal(STDOUT_FILENO, r.code);
-    io::write_all(STDOUT_FILENO, b": ");
-    io::print_decimal(STDOUT_FILENO, point[0]);
-    io::write_all(STDOUT_FILENO, b" ");
-    io::print_decimal(STDOUT_FILENO, point[1]);
+// Writes a line: the number that a step answered, and the words of the point.
+fn say(code: u64, point: &[u64]) {
+    io::print_decimal(STDOUT_FILENO, code);
+    io::write_all(STDOUT_FILENO, b":");
+    let mut i = 0;
+    while i < point.len() {
+        io::write_all(STDOUT_FILENO, b" ");
+        io::print_decimal(STDOUT_FILENO, point[i]);
+        i += 1;
+    }
     io::write_all(STDOUT_FILENO, b"\n");
-    r.state
 }
 
-// Halton, bases 2 and 3: a run of four points, and one waking after it.
+// Steps the lent sampler in place, and says each step, until one answers another number than 0.
+fn collect(s: &mut Sampler, point: &mut [u64]) -> u64
+    ensures { λ r. ⌜ ended r (now (s .exit)) (now (point .exit)) ≡ served (now (s .entry)) (now (point .entry)) ⌝ }
+{
+    loop {
+        let code = sampler::step_in_place(s, point);
+        say(code, point);
+        if code != 0 {
+            return code;
+        }
+    }
+}
+
+// The sampler is a local of this function for as long as the loop runs.
+fn keep(s: Sampler, point: &mut [u64]) -> Moved
+    ensures { λ r. ⌜ ended (r .code) (r .state) (now (point .exit)) ≡ served s (now (point .entry)) ⌝ }
+{
+    let mut own = s;
+    let code = collect(&mut own, point);
+    Moved { code, state: own }
+}
+
+// Halton, bases 2 and 3: a run of four points, and the step after it.
 fn main() {
     let r = sampler::read(&[16, 8, 16]);
     let o = sampler::open(r.state, 0, 4);
-    let a = report(o.state);
-    let b = report(a);
-    let c = report(b);
-    let d = report(c);
-    report(d);
+    let mut point = [0u64; 2];
+    keep(o.state, &mut point);
 }

@@ -1,6 +1,6 @@
 // Runs the edges and the traps of 01-scope.md through the calls, one line each: what was asked, and the number that came.
 use libc::STDOUT_FILENO;
-use state::Sampler;
+use sampler::Sampler;
 
 // Writes a line: a label and a number.
 fn report(label: &[u8], n: u64) {
@@ -67,7 +67,7 @@ fn second_index() {
 // What counting a window over a run answers: the refusal's number or 0, S, and the bound.
 fn counting(label: &[u8], s: Sampler, start: u64, count: u64, w: &[u64]) {
     let a = sampler::open(s, start, count);
-    let r = window_count::count(a.state, w);
+    let r = sampler::count(a.state, w);
     report(label, r.code);
     report(b"  inside", r.inside);
     report(b"  bound", r.bound);

@@ -10,7 +10,7 @@ pub use lines::text_end;
 use report::refusal;
 pub use report::say;
 pub use report::say_number;
-use state::Sampler;
+use sampler::Sampler;
 use words::Number;
 ghost use Prim.Native.Nat.{_≤_};
 ghost use lib.ListN.{length};
@@ -32,7 +32,7 @@ pub fn new() -> Job {
         errors: 0,
         has_plan: false,
         has_run: false,
-        state: state::blank_state(),
+        state: sampler::blank_state(),
     }
 }
 

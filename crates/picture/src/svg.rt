@@ -1,7 +1,7 @@
 // The picture. Its frame is 1,000 units wide and high, and the second axis goes up.
 use job::say;
 use job::say_number;
-use state::Sampler;
+use sampler::Sampler;
 ghost use Prim.Native.Nat.{_^_, _<_, _≤_};
 
 // ---- points

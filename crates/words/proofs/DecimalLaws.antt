@@ -4,14 +4,14 @@ use mathlib.Core.Bool.{true, false, true≢false}
 use mathlib.Core.List.{List, [], _∷_}
 use mathlib.Core.Logic.{⊎-elim}
 use Prim.Native.Nat.{ℕ, _+_, _*_, _-_, _^_, _<_, _≤_}
-use native.Mathlib.Numerals.{add-one}
 use native.Mathlib.Omega.{arith}
 use borrow.Author.Tests.{lt-ltb, le-ltb}
 use lib.ListN.{length, drop, getD}
-use lib.Seq.{drop-cons, drop-length}
+use lib.Seq.{drop-length}
 use Rattle.numbers.proofs.Cases.{lt-or-ge}
 use Rattle.words.specs.declared.Number.the-variants.{Value, NoNumber, TooLarge}
 use Rattle.words.specs.Decimal.{allDigits, valueFrom, fitting, numberOf}
+use Rattle.words.proofs.WordLaws.{here}
 
 -- ---- the byte at hand
 
@@ -29,17 +29,14 @@ module _ (b : ℕ) (bs : List ℕ) where
   digit l h = rw (le-ltb b 48 l, le-ltb 57 b h)
 
 module _ (l : List ℕ) (i : ℕ) (h : i < length l) where
-  here : drop i l ≡ getD l i 0 ∷ drop (i + 1) l
-  here = rw add-one (drop-cons l i 0 h)
-
   pub byte-low : getD l i 0 < 48 → allDigits (drop i l) ≡ false
-  byte-low d = rw here (low (getD l i 0) (drop (i + 1) l) d)
+  byte-low d = rw (here l i h) (low (getD l i 0) (drop (i + 1) l) d)
 
   pub byte-high : 57 < getD l i 0 → allDigits (drop i l) ≡ false
-  byte-high d = rw here (high (getD l i 0) (drop (i + 1) l) d)
+  byte-high d = rw (here l i h) (high (getD l i 0) (drop (i + 1) l) d)
 
   pub byte-digit : 48 ≤ getD l i 0 → getD l i 0 ≤ 57 → allDigits (drop i l) ≡ allDigits (drop (i + 1) l)
-  byte-digit d e = rw here (digit (getD l i 0) (drop (i + 1) l) d e)
+  byte-digit d e = rw (here l i h) (digit (getD l i 0) (drop (i + 1) l) d e)
 
   pub digit-here : allDigits (drop i l) ≡ true → (48 ≤ getD l i 0) × (getD l i 0 ≤ 57) × (allDigits (drop (i + 1) l) ≡ true)
   digit-here e =
@@ -50,7 +47,7 @@ module _ (l : List ℕ) (i : ℕ) (h : i < length l) where
 
   pub value-next : (n : ℕ) → valueFrom n (drop i l) ≡ valueFrom (n * 10 + (getD l i 0 - 48)) (drop (i + 1) l)
   unfolding valueFrom
-  value-next n = rw here refl
+  value-next n = rw (here l i h) refl
 
 pub digits-end : (l : List ℕ) (i : ℕ) → i ≡ length l → allDigits (drop i l) ≡ true
 unfolding allDigits

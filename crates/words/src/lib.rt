@@ -1,10 +1,11 @@
 // The words of a line of text, and the numbers that they spell.
 ghost use mathlib.Core.Path.{_≡_};
+ghost use mathlib.Core.Bool.{true};
 ghost use Prim.Native.Nat.{_*_, _≤_};
-ghost use lib.ListN.{length};
-ghost use Rattle.io.specs.Counts.{Counts};
-ghost use Rattle.words.specs.Word.{WordIn};
+ghost use lib.ListN.{length, drop};
+ghost use Rattle.words.specs.Word.{isBlank, spanEnd, FirstWord, wordsIn, leading};
 ghost use Rattle.words.specs.Decimal.{allDigits, numberOf};
+ghost use Rattle.words.specs.Hexadecimal.{hexValue, isHex, Hexed};
 
 // A word's place in its line; where there is no word left, start and end are the same.
 pub struct Word {
@@ -21,7 +22,10 @@ pub enum Number {
 
 // ---- words
 
-fn is_blank(b: u8) -> bool {
+// Whether a byte is a space or a tab.
+fn is_blank(b: u8) -> bool
+    ensures { λ r. ⌜ r ≡ isBlank b ⌝ }
+{
     if b == b' ' {
         return true;
     }
@@ -31,7 +35,7 @@ fn is_blank(b: u8) -> bool {
 // The end of the blanks at `from`, or of the word there.
 fn span(line: &[u8], from: usize, blank: bool) -> usize
     requires { ⌜ from ≤ length (now line) ⌝ }
-    ensures { λ r. ⌜ (from ≤ r) × (r ≤ length (now (line .entry))) ⌝ }
+    ensures { λ r. ⌜ (r ≡ spanEnd (now (line .entry)) from blank) × (r ≤ length (now (line .entry))) ⌝ }
 {
     let mut i = from;
     while i < line.len() {
@@ -46,7 +50,7 @@ fn span(line: &[u8], from: usize, blank: bool) -> usize
 // The first word at or after `from`.
 pub fn find(line: &[u8], from: usize) -> Word
     requires { ⌜ from ≤ length (now line) ⌝ }
-    ensures { λ r. ⌜ WordIn (now (line .entry)) from r ⌝ }
+    ensures { λ r. ⌜ FirstWord (now (line .entry)) from r ⌝ }
 {
     let start = span(line, from, true);
     let end = span(line, start, false);
@@ -56,7 +60,7 @@ pub fn find(line: &[u8], from: usize) -> Word
 // How many words there are from `from` on.
 pub fn count(line: &[u8], from: usize) -> usize
     requires { ⌜ from ≤ length (now line) ⌝ }
-    ensures { λ r. ⌜ r ≤ length (now (line .entry)) ⌝ }
+    ensures { λ r. ⌜ r ≡ wordsIn true (drop from (now (line .entry))) ⌝ }
 {
     let mut n: usize = 0;
     let mut outside = true;
@@ -119,7 +123,7 @@ pub fn decimal(word: &[u8]) -> Number
 
 // The value of a digit, in either case; 16 for any other byte.
 fn hex_digit(b: u8) -> u8
-    ensures { λ r. ⌜ r ≤ 16 ⌝ }
+    ensures { λ r. ⌜ r ≡ hexValue b ⌝ }
 {
     match b {
         48..=57 => b - 48,
@@ -131,7 +135,7 @@ fn hex_digit(b: u8) -> u8
 
 // The place of the first byte that is no hexadecimal digit; the word's length where there is none.
 pub fn not_hex(word: &[u8]) -> usize
-    ensures { λ r. ⌜ r ≤ length (now (word .entry)) ⌝ }
+    ensures { λ r. ⌜ r ≡ leading isHex (now (word .entry)) ⌝ }
 {
     let mut i = 0;
     while i < word.len() {
@@ -146,13 +150,14 @@ pub fn not_hex(word: &[u8]) -> usize
 // Puts the bytes that pairs of digits spell to the front of `out`, and gives their number. A byte that is no digit counts as 0.
 pub fn hex(word: &[u8], out: &mut [u8]) -> usize
     requires { ⌜ length (now word) ≤ 2 * length (now out) ⌝ }
-    ensures { λ r. ⌜ Counts r (now (out .exit)) ⌝ }
+    ensures { λ r. ⌜ Hexed (now (word .entry)) (now (out .entry)) r (now (out .exit)) ⌝ }
 {
     let n = word.len() / 2;
     let mut i = 0;
     while i < n {
-        let j = 2 * i;
-        out[i] = hex_digit(word[j]) % 16 * 16 + hex_digit(word[j + 1]) % 16;
+        let high = hex_digit(word[2 * i]) % 16;
+        let low = hex_digit(word[2 * i + 1]) % 16;
+        out[i] = high * 16 + low;
         i += 1;
     }
     n

@@ -1,20 +1,25 @@
--- There are no more words than bytes. Assumes nothing.
+-- The words counted, with those that begin from the byte at hand on, are all. Assumes nothing.
 use borrow.Author.Needs.{needs}
-use Prim.Native.Nat.{_-_, _≤_}
-use native.Mathlib.Omega.{arith}
+use mathlib.Core.Path.{_≡_, refl}
+use mathlib.Core.Bool.{true, false}
 use mathlib.Core.Logic.{⊎-elim}
-use lib.ListN.{length}
+use Prim.Native.Nat.{_+_, _-_, _≤_}
+use native.Mathlib.Omega.{arith}
+use lib.ListN.{length, drop}
+use Rattle.words.specs.Word.{wordsIn}
+use Rattle.words.proofs.WordLaws.{words-more, words-end}
 use Rattle.words.proofs.count.Statement.{statement}
 use Rattle.words.proofs.count.Tie as tie
 
 abbrev Inv-loop : tie.InvT-loop
-Inv-loop line from n₀ outside₀ i₀ n outside i = (i ≤ length line) × (n ≤ i)
+Inv-loop line from n₀ outside₀ i₀ n outside i =
+    (i ≤ length line) × (n ≤ i) × (n + wordsIn outside (drop i line) ≡ wordsIn true (drop from line))
 
 abbrev μ-loop : tie.MeasureT-loop
 μ-loop line from n₀ outside₀ i₀ n outside i = length line - i
 
 loop-holds : tie.Need-loop-holds Inv-loop μ-loop
-loop-holds c = search needs
+loop-holds c = (omega arith, omega arith, omega arith)
 
 shared-slice-read-is-blank : tie.Need-shared-slice-read-is-blank Inv-loop μ-loop
 shared-slice-read-is-blank c = search needs
@@ -32,10 +37,29 @@ loop-less : tie.Need-loop-less Inv-loop μ-loop
 loop-less c = search needs
 
 loop-again : tie.Need-loop-again Inv-loop μ-loop
-loop-again c = ⊎-elim (λ w. omega arith) (λ w. omega arith) (c .if1 .came)
+loop-again c =
+    let b = c .before in
+    let l = b .before .before .before in
+    let more = words-more (l .before .before .args .line .now) (l .loop .i) (omega arith) (l .loop .outside) (b .is-blank .result) in
+    ⊎-elim
+    (λ w. (omega arith, omega arith, omega (arith, l .loop .inv .2, w .2, more true (b .is-blank .ensures) (rw (w .0 .taken) (w .1 .taken)))))
+    (λ w. (
+      omega arith,
+      omega arith,
+      omega (
+        arith,
+        l .loop .inv .2,
+        w .1,
+        more false (b .is-blank .ensures)
+            (⊎-elim (λ v. rw (v .0 .taken) (v .1 .left)) (λ v. rw (v .left) refl) (w .0 .came)),
+      ),
+    ))
+    (c .if1 .came)
 
 returns : tie.Need-returns Inv-loop μ-loop
-returns c = search needs
+returns c =
+    let l = c .before in
+    omega (arith, l .loop .inv .2, words-end (l .before .before .args .line .now) (l .loop .i) (omega arith) (l .loop .outside))
 
 pub count-spec : {M : Type 1} → statement M
 count-spec =

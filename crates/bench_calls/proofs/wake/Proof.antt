@@ -1,4 +1,4 @@
--- `waking::wake` meets its contract: a walk of its MIR, by hand. The local sampler is lent for a lifetime that is made for the call, and comes back at the state that
+-- The owner of a sampler meets its contract: a walk of its MIR, by hand. The local sampler is lent for a lifetime that is made for the call, and comes back at the state that
 -- `step_in_place` left; the slice is given up for good (at its own lifetime, share and name).
 -- Assumes nothing.
 use mathlib.Core.Path.{_≡_, refl, ap}
@@ -53,10 +53,10 @@ use Rattle.run_calls.proofs.step_in_place as callee
 use Rattle.run_calls.proofs.step_in_place.Symbol as callee-def
 use Rattle.run_calls.proofs.step_in_place.Symbol.{name as #run-calls·step-in-place}
 use Rattle.run_calls.proofs.step_in_place.Met as callee-thm
-use Rattle.waking.proofs.wake.Key.{name as #waking·wake}
-use Rattle.waking.proofs.wake as f
-use Rattle.waking.proofs.wake.Statement as stated
-use Rattle.waking.proofs.wake.Code as code
+use Rattle.bench_calls.proofs.wake.Key.{name as #bench-calls·wake}
+use Rattle.bench_calls.proofs.wake as f
+use Rattle.bench_calls.proofs.wake.Statement as stated
+use Rattle.bench_calls.proofs.wake.Code as code
 
 abbrev stayed : Stays (f.ended .signature .params) (f.ended .kept)
 stayed = (stay-none (λ _. T.the-row) yes, (gave-slice (0 ∷ []) tt (plain (λ _. u64)), tt))
@@ -180,6 +180,6 @@ pub wake-spec : {M : Type 1} → stated.statement M
 unfolding code.routine tablesOf
 wake-spec 𝓤 H 𝓜 𝓖 𝓡 =
     entered 𝓤 H (tripleOf 𝓤 H (𝓖 .A) f.signature (f.spec 𝓤 H (𝓖 .A) (𝓜 .mem) (𝓡 .run)))
-    (tables 𝓤 H 𝓜 𝓡 code.env .C) (tables 𝓤 H 𝓜 𝓡 code.env .Λ) #waking·wake code.function (code.unfolded 𝓤 H 𝓜 𝓡)
+    (tables 𝓤 H 𝓜 𝓡 code.env .C) (tables 𝓤 H 𝓜 𝓡 code.env .Λ) #bench-calls·wake code.function (code.unfolded 𝓤 H 𝓜 𝓡)
     (wake-meets 𝓤 H (𝓖 .A) (givenOf 𝓤 H 𝓜 𝓖) (𝓜 .mem) (𝓡 .run) (tablesOf 𝓤 H 𝓜 (tables 𝓤 H 𝓜 𝓡 code.env))
     (cited 𝓤 H (Callee 𝓤 H (𝓖 .A) (𝓜 .mem) (𝓡 .run)) 𝓜 𝓡 code.env #run-calls·step-in-place callee-def.routine code.calls-run-calls·step-in-place (callee-thm.met 𝓤 H 𝓜 𝓖 𝓡)))

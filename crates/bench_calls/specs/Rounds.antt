@@ -1,0 +1,69 @@
+-- The calls in loops: what so many rounds of a call answer and leave. Definitions only.
+use mathlib.Core.Bool.{cond}
+use mathlib.Core.List.{List}
+use Prim.Native.Nat.{ℕ, zero, suc, _%_, _^_}
+use lib.Bits.{bitXor}
+use lib.Dec.{ltb}
+use Rattle.permutation.specs.Families.{imageOf}
+use Rattle.halton.specs.Axis.{numerator}
+use Rattle.points.specs.Run.{runOf}
+use Rattle.state.specs.declared.Sampler.{Sampler}
+use Rattle.calls.specs.Calls.{readSpec, openSpec, jumpSpec, jumpBuf, stepSpec, stepBuf, blockSpec, blockBuf}
+use Rattle.window_count.specs.Call.{countSpec}
+
+-- n rounds on a first value, each of which has its number, from 0
+unfoldable pub rounds : {A : Type 0} → (ℕ → A → A) → A → ℕ → A
+rounds round a zero = a
+rounds round a (suc n) = round n (rounds round a n)
+
+-- after a round: what the call answered, the state and the words
+pub record Turn : Type 0 where
+  pub answer : ℕ
+  pub state : Sampler
+  pub words : List ℕ
+
+abbrev pub turn : ℕ → Sampler → List ℕ → Turn
+turn n s words = record { answer = n; state = s; words = words }
+
+-- the state of a plan with a run opened
+unfoldable pub openedState : List ℕ → ℕ → ℕ → Sampler
+openedState plan start count = openSpec (readSpec plan .state) (runOf start count) .state
+
+-- the index of a round
+abbrev pub indexAt : ℕ → ℕ → ℕ
+indexAt first i = bitXor first i % 2 ^ 32
+
+-- ---- a round of each call
+
+unfoldable pub blockRound : ℕ → Turn → Turn
+blockRound _ t = turn (blockSpec (t .state) (t .words) .points) (t .state) (blockBuf (t .state) (t .words))
+
+unfoldable pub jumpRound : ℕ → ℕ → Turn → Turn
+jumpRound first i t =
+    turn (jumpSpec (t .state) (indexAt first i) (t .words) .code) (t .state) (jumpBuf (t .state) (indexAt first i) (t .words))
+
+unfoldable pub stepRound : ℕ → Turn → Turn
+stepRound _ t = turn (stepSpec (t .state) (t .words) .code) (stepSpec (t .state) (t .words) .state) (stepBuf (t .state) (t .words))
+
+unfoldable pub axisRound : ℕ → ℕ → ℕ → ℕ → ℕ → ℕ
+axisRound family b first i x = bitXor x (numerator (imageOf family b) b (indexAt first i))
+
+-- ---- the loops
+
+unfoldable pub blocksOf : Sampler → ℕ → List ℕ → Turn
+blocksOf s n words = rounds blockRound (turn 0 s words) n
+
+unfoldable pub jumpsOf : Sampler → ℕ → ℕ → List ℕ → Turn
+jumpsOf s first n words = rounds (jumpRound first) (turn 0 s words) n
+
+unfoldable pub stepsOf : Sampler → ℕ → List ℕ → Turn
+stepsOf s n words = rounds stepRound (turn 0 s words) n
+
+-- the numerators' exclusive or, or 0 for a base outside 2 to 256
+unfoldable pub axisJumpsOf : ℕ → ℕ → ℕ → ℕ → ℕ
+axisJumpsOf family b first n = cond (ltb b 2) 0 (cond (ltb 256 b) 0 (rounds (axisRound family b first) 0 n))
+
+-- S, or 0 where there was no round
+unfoldable pub countsOf : Sampler → List ℕ → ℕ → ℕ
+countsOf s window zero = 0
+countsOf s window (suc n) = countSpec s window .inside

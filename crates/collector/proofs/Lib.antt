@@ -1,0 +1,4 @@
+pub mod Again
+pub mod Shown
+pub mod LoopLaws
+pub mod EndLaws
