@@ -156,9 +156,9 @@ pub fn advanced(s: Sampler) -> Sampler
     requires { ⌜ (genuine s ≡ true) × (s .taken < s .count) ⌝ }
     ensures { λ r. ⌜ r ≡ made (planIn s) (runIn s) (s .taken + 1) ⌝ }
 {
-    let numerators = stepped_point(s);
+    let next = stepped_point(s);
     let mut t = s;
     t.taken = s.taken + 1;
-    t.numerators = numerators;
+    t.numerators = next;
     t
 }
