@@ -1,4 +1,4 @@
--- The tables of all axes: one axis more leaves those before it. Assumes nothing.
+-- The tables of all axes: one axis more leaves those before it, and all of them give the points. Assumes nothing.
 use mathlib.Core.Path.{_≡_, sym, ap, _∙_}
 use mathlib.Core.List.{List, _++_}
 use mathlib.Core.Logic.{⊎-elim}
@@ -7,11 +7,14 @@ use native.Mathlib.Omega.{arith}
 use lib.ListN.{length, getD, set, take, drop, length-drop, take-append-drop}
 use lib.Seq.{length-take-le, take-at, drop-at, take-append-le, drop-append-le, getD-set-same, getD-set-other}
 use Rattle.numbers.proofs.Cases.{lt-or-ge}
-use Rattle.points.specs.Arrays.{numeratorFrom}
+use Rattle.points.specs.Arrays.{numeratorFrom, Arrays}
 use Rattle.points.proofs.ArrayLaws.{numerator-by-base}
 use Rattle.halton_blocks.specs.Filling.{haltonFrom, Made}
 use Rattle.halton_blocks.proofs.MadeLaws.{made-points}
-use Rattle.blocks.specs.Tables.{entriesAt, tabledAt, AllReady, AllMade}
+use Rattle.blocks.specs.Tables.{Bases, entriesAt, tabledAt, AllReady, AllMade}
+
+pub bases-of : {family axes : ℕ} {bases vs : List ℕ} → Arrays family axes bases vs → (family ≡ 2 → ⊥) → Bases axes bases
+bases-of a f = record { few = a .few; reach = omega (arith, a .few, a .bases-long); low = λ i h. a .base-low i h f; high = λ i h. a .base-high i h f }
 
 -- l up to axis i's entries, then ys, then the rest
 abbrev pub replaced : List ℕ → ℕ → List ℕ → List ℕ → List ℕ

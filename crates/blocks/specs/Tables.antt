@@ -1,9 +1,16 @@
--- The tables of all axes of a Halton plan, 256 entries an axis. Definitions only.
+-- The bases and the tables of all axes of a Halton plan, 256 entries an axis. Definitions only.
 use mathlib.Core.List.{List}
-use Prim.Native.Nat.{ℕ, _*_, _<_}
-use lib.ListN.{getD, take, drop}
+use Prim.Native.Nat.{ℕ, _*_, _<_, _≤_}
+use lib.ListN.{length, getD, take, drop}
 use Rattle.tables.specs.Tables.{tabled}
 use Rattle.halton_blocks.specs.Filling.{Ready, Made}
+
+-- the first `axes` of these bases, six at most, are from 2 to 256
+pub record Bases (axes : ℕ) (bases : List ℕ) : Type 0 where
+  pub few : axes ≤ 6
+  pub reach : axes ≤ length bases
+  pub low : (i : ℕ) → i < axes → 2 ≤ getD bases i 0
+  pub high : (i : ℕ) → i < axes → getD bases i 0 ≤ 256
 
 -- the entries of axis i
 abbrev pub entriesAt : List ℕ → ℕ → List ℕ

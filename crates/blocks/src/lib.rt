@@ -1,11 +1,11 @@
 // Many points of a plan held in arrays, in a row: one axis after the other, each into its column of the buffer.
 ghost use mathlib.Core.Path.{_≡_};
 ghost use mathlib.Core.List.{_++_};
-ghost use Prim.Native.Nat.{ℕ, _+_, _*_, _^_, _<_, _≤_};
+ghost use Prim.Native.Nat.{_+_, _*_, _^_, _<_, _≤_};
 ghost use lib.ListN.{length, drop};
 ghost use Rattle.columns.specs.Rows.{Column, Columns};
-ghost use Rattle.points.specs.Arrays.{numeratorFrom, pointsAt, BaseAt, AxisAt, Arrays};
-ghost use Rattle.blocks.specs.Tables.{tabledAt, AllReady, AllMade};
+ghost use Rattle.points.specs.Arrays.{numeratorFrom, pointsAt, AxisAt, Arrays};
+ghost use Rattle.blocks.specs.Tables.{Bases, tabledAt, AllReady, AllMade};
 
 // Writes column `j` of the rows `lo` to `hi`, which have `s` words each: the numerators of axis `i`, row 0 being index `n`.
 fn fill_column(
@@ -63,8 +63,7 @@ fn make_all_tables(
     images: &mut [u8],
     tables: &mut [u64],
 ) -> [usize; 6]
-    requires { ⌜ (axes ≤ 6) × ((i : ℕ) → i < axes → BaseAt family (now bases) i) × (family ≡ 2 → ⊥) ⌝ }
-    requires { ⌜ (length (now images) ≡ 1536) × (length (now tables) ≡ 1536) ⌝ }
+    requires { ⌜ Bases axes (now bases) × (length (now images) ≡ 1536) × (length (now tables) ≡ 1536) ⌝ }
     ensures { λ r. ⌜ AllMade family axes (now (bases .entry)) r (now (images .exit)) (now (tables .exit)) ⌝ }
 {
     let mut sizes = [0usize; 6];

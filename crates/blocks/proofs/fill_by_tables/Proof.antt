@@ -9,8 +9,7 @@ use borrow.Author.Needs.{needs}
 use Rattle.columns.specs.Rows.{Columns}
 use Rattle.columns.proofs.ColumnLaws.{columns-empty, columns-as, columns-join, columns-rows, columns-list}
 use Rattle.points.specs.Arrays.{numeratorFrom}
-use Rattle.points.proofs.ArrayLaws.{axis-at}
-use Rattle.blocks.proofs.EntryLaws.{all-ready, all-points}
+use Rattle.blocks.proofs.EntryLaws.{bases-of, all-ready, all-points}
 use Rattle.blocks.proofs.RowLaws.{points-at-rows}
 use Rattle.blocks.proofs.fill_by_tables.Statement.{statement}
 use Rattle.blocks.proofs.fill_by_tables.Tie as tie
@@ -34,7 +33,7 @@ slice-aggregate-make-all-tables-2 c = search needs
 make-all-tables-requires : tie.Need-make-all-tables-requires Inv-loop μ-loop
 make-all-tables-requires c κs =
     let s = c .before .before .before .before .before in
-    ((s .pre .0 .few, λ i h. axis-at (s .pre .0) i h .base, s .pre .4), (search needs, search needs))
+    (bases-of (s .pre .0) (s .pre .4), search needs, search needs)
 
 loop-holds : tie.Need-loop-holds Inv-loop μ-loop
 loop-holds c = (omega arith, columns-empty _ _ _)

@@ -29,9 +29,7 @@ mul-make-tables : tie.Need-mul-make-tables Inv-loop μ-loop
 mul-make-tables c = omega arith
 
 shared-slice-read-make-tables : tie.Need-shared-slice-read-make-tables Inv-loop μ-loop
-shared-slice-read-make-tables c =
-    let s = c .before .before .before .before .before .before in
-    omega (arith, s .pre .0 .1 (c .before .before .loop .i) (omega arith) .reach)
+shared-slice-read-make-tables c = omega arith
 
 sub-make-tables : tie.Need-sub-make-tables Inv-loop μ-loop
 sub-make-tables c = omega arith
@@ -58,8 +56,7 @@ make-tables-requires : tie.Need-make-tables-requires Inv-loop μ-loop
 make-tables-requires c κs =
     let s = c .before .before .before .before .before .before .before .before in
     let i = c .before .before .before .before .loop .i in
-    let e = s .pre .0 .1 i (omega arith) in
-    (e .low (s .pre .0 .2), e .high (s .pre .0 .2), search needs, search needs)
+    (s .pre .0 .low i (omega arith), s .pre .0 .high i (omega arith), search needs, search needs)
 
 mul-sizes : tie.Need-mul-sizes Inv-loop μ-loop
 mul-sizes c = omega arith

@@ -37,7 +37,7 @@ slice-aggregate-numerator-2 c = search needs
 numerator-requires : tie.Need-numerator-requires
 numerator-requires c κs =
     let s = c .before .before .before .before .before in
-    (axis-at (known-arrays _ (known s)) 0 (omega (arith, axes-few _ (known s))), omega arith)
+    (axis-at (known-arrays _ (known s)) _ (omega (arith, axes-few _ (known s))), omega arith)
 
 slice-aggregate-denominator : tie.Need-slice-aggregate-denominator
 slice-aggregate-denominator c = search needs
