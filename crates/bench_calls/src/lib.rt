@@ -93,7 +93,7 @@ fn wake(s: Sampler, point: &mut [u64]) -> Moved
     Moved { code, state: own }
 }
 
-// The same in place: the state is lent to each step.
+// Takes `rounds` steps of a run in place: the state is lent to each step. Answers the last refusal's number or 0.
 #[no_mangle]
 pub extern "C" fn bench_steps_in_place(plan: &[u8], start: u64, rounds: u64, out: &mut [u64]) -> u64
     ensures { λ r. ⌜ (r ≡ stepsOf (openedState (now (plan .entry)) start rounds) rounds (now (out .entry)) .answer) × (now (out .exit) ≡ stepsOf (openedState (now (plan .entry)) start rounds) rounds (now (out .entry)) .words) ⌝ }

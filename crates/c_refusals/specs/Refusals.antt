@@ -10,6 +10,6 @@ use Rattle.points.specs.Run.{Run, inRange}
 abbrev pub pointRefusals : ℕ → ℕ → ℕ → List Condition
 pointRefusals index s room = 11 when leb (2 ^ 32) index ∷ 13 when ltb room (8 * s) ∷ []
 
--- window count: 11 (range) by the run, 14 (window) where the bytes are none, 13 (room) for S and the bound
+-- window count: 11 (range) by the run, 14 (window) where the bytes are no window, 13 (room) for S and the bound
 abbrev pub countRefusals : Run → Bool → ℕ → List Condition
-countRefusals r window room = 11 when not (inRange r) ∷ 14 when not window ∷ 13 when ltb room 16 ∷ []
+countRefusals r isWindow room = 11 when not (inRange r) ∷ 14 when not isWindow ∷ 13 when ltb room 16 ∷ []

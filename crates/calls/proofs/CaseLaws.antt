@@ -1,10 +1,10 @@
 -- Each answer of each call, from the tests that lead to it. Assumes nothing.
 use mathlib.Core.Path.{_≡_, refl, sym, ap, _∙_}
 use mathlib.Core.Bool.{Bool, true, false, not}
-use mathlib.Core.List.{List, _++_}
+use mathlib.Core.List.{List, [], _++_}
 use Prim.Native.Nat.{ℕ, suc, _+_, _*_, _^_, _≤_, _<_}
 use lib.ListN.{length, drop}
-use borrow.Author.Tests.{lt-ltb, le-ltb, le-leb, lt-leb, not-true, not-false}
+use borrow.Author.Tests.{lt-ltb, le-ltb, le-leb, lt-leb, leb-false, ltb-false, not-true, not-false}
 use Rattle.bits.specs.Stream.{AllBelow}
 use Rattle.plan.specs.Plan.{halton, sobol, spell}
 use Rattle.plan.specs.Reading.{Reading, refused, accepted, readPlan}
@@ -12,13 +12,14 @@ use Rattle.plan.specs.Answer.{answerOf, planAnswered, Accepted}
 use Rattle.plan.specs.declared.PlanRead.{PlanRead}
 use Rattle.plan.proofs.AnswerLaws.{read-accepted}
 use Rattle.plan.specs.Order.{firstDue, unlessDue}
+use Rattle.plan.proofs.OrderLaws.{none-due}
 use Rattle.points.specs.Point.{pointOf, slotOf}
 use Rattle.points.specs.Run.{Run, runOf, inRange, runPoint, runPoints}
 use Rattle.writer.specs.Parts.{noRoom, Written}
 use Rattle.writer.specs.declared.PlanWritten.{PlanWritten}
 use Rattle.state.specs.State.{made, blank, planIn, runIn, genuine}
 use Rattle.state.specs.declared.Sampler.{Sampler}
-use Rattle.calls.specs.Calls.{moved, blocked, readState, readSpec, writeRefusals, writeSpec, writeBuf, openRefusals, openSpec, jumpRefusals, jumpSpec, jumpBuf, runRefusals, stepSpec, stepBuf, blockSize, blockSpec, blockBuf, secondRefusals, secondSpec}
+use Rattle.calls.specs.Calls.{moved, blocked, foreign, spent, noPointRoom, readState, readSpec, writeSpec, writeBuf, openSpec, jumpSpec, jumpBuf, runRefusals, stepSpec, stepBuf, blockSize, blockSpec, blockBuf, secondSpec}
 
 -- ---- the test that every call makes first, negated in the code
 
@@ -142,6 +143,16 @@ module _ (s : Sampler) (buf : List ℕ) where
       pub run-clear : s .axes ≤ length buf → firstDue (runRefusals s buf) ≡ 0
       unfolding firstDue
       run-clear r = rw (g, lt-leb (s .count) (s .taken) h, le-ltb (length buf) (s .axes) r) refl
+
+  -- where none is due, each test passes
+  pub run-cleared : firstDue (runRefusals s buf) ≡ 0 → (genuine s ≡ true) × (s .taken < s .count) × (s .axes ≤ length buf)
+  run-cleared e =
+      let a = none-due 14 (foreign s) _ e in
+      let b = none-due 11 (spent s) _ (a .1) in (
+        not-false (genuine s) (a .0),
+        leb-false (s .count) (s .taken) (b .0),
+        ltb-false (length buf) (s .axes) (none-due 12 (noPointRoom s buf) [] (b .1) .0),
+      )
 
   module _ (n : ℕ) (e : firstDue (runRefusals s buf) ≡ suc n) where
     pub step-refused : (stepSpec s buf ≡ moved (suc n) s) × (stepBuf s buf ≡ buf)

@@ -3,12 +3,12 @@ use mathlib.Core.Path.{_≡_, refl, sym, ap, _∙_, subst}
 use mathlib.Core.Bool.{Bool, true, false, not, true≢false}
 use mathlib.Core.Logic.{_↔_}
 use mathlib.Core.List.{List, [], _∷_}
-use Prim.Native.Nat.{ℕ, zero, suc, _+_, _-_, _/_, _≤_, _<_, min}
+use Prim.Native.Nat.{ℕ, zero, suc, _+_, _-_, _/_, _≤_}
 use native.Mathlib.Nat.{min-le-left}
 use native.Mathlib.Numerals.{add-one}
 use native.Mathlib.Omega.{arith}
 use lib.ListN.{length, replicate, length-replicate}
-use borrow.Author.Tests.{leb-false, ltb-false, not-true, not-false}
+use borrow.Author.Tests.{not-true, not-false}
 use Rattle.bits.specs.Stream.{AllBelow}
 use Rattle.plan.specs.Plan.{Plan, Valid, spell}
 use Rattle.plan.specs.Reading.{Reading, refused, accepted, readPlan}
@@ -23,12 +23,12 @@ use Rattle.points.proofs.RunLaws.{is-range}
 use Rattle.state.specs.State.{made, planIn, runIn, genuine}
 use Rattle.state.specs.History.{Reachable}
 use Rattle.state.specs.declared.Sampler.{Sampler}
-use Rattle.state.proofs.GenuineLaws.{Permitted, Genuine, genuine-is, made-genuine}
+use Rattle.state.proofs.GenuineLaws.{Permitted, genuine-is, made-genuine}
 use Rattle.state.proofs.PlanLaws.{plan-in-made}
 use Rattle.state.proofs.HistoryLaws.{genuine-iff}
-use Rattle.calls.specs.Calls.{moved, readState, readSpec, foreign, beyond, spent, noPointRoom, writeSpec, openSpec, openRefusals, jumpSpec, runRefusals, stepSpec, blockSize, blockSpec, secondSpec}
-use Rattle.calls.specs.History.{After, read, opened, stepped, filled, AfterCalls}
-use Rattle.calls.proofs.CaseLaws.{open-done, step-done, block-done}
+use Rattle.calls.specs.Calls.{moved, readState, readSpec, foreign, writeSpec, openSpec, jumpSpec, runRefusals, stepSpec, blockSize, blockSpec, secondSpec}
+use Rattle.calls.specs.History.{After, read, opened, stepped, filled, lastRun, AfterCalls}
+use Rattle.calls.proofs.CaseLaws.{open-done, run-cleared, step-done, block-done}
 use Rattle.calls.proofs.RunLaws.{step-at, open-at}
 
 -- ---- accepted calls leave the plan that was read, and a permitted run
@@ -40,7 +40,7 @@ pub record Leaves (bytes : List ℕ) (s : Sampler) : Type 0 where
   pub run : Permitted (runIn s) (s .taken)
   pub is : s ≡ made plan (runIn s) (s .taken)
 
-of-made : {bytes : List ℕ} {s : Sampler} (p : Plan) → Valid p → bytes ≡ spell p → (r : Run) (taken : ℕ) → Permitted r taken → s ≡ made p r taken
+pub of-made : {bytes : List ℕ} {s : Sampler} (p : Plan) → Valid p → bytes ≡ spell p → (r : Run) (taken : ℕ) → Permitted r taken → s ≡ made p r taken
     → Leaves bytes s
 unfolding made
 of-made p v e r taken h is =
@@ -64,30 +64,35 @@ module _ {bytes : List ℕ} {s : Sampler} (l : Leaves bytes s) where
       let range = not-false (inRange r) (none-due 10 (not (inRange r)) [] (none-due 14 (foreign s) _ z .1) .0) in
       (range, ap (λ (a : _). a .state) (open-done s r leaves-genuine range) ∙ ap (λ (p : Plan). made p r 0) leaves-plan)
 
-read-leaves : (bytes : List ℕ) → AllBelow 256 bytes → readSpec bytes .code ≡ 0 → Leaves bytes (readSpec bytes .state)
+-- an accepted reading
+read-accepted : (bytes : List ℕ) → AllBelow 256 bytes → readSpec bytes .code ≡ 0
+    → (p : Plan) × Valid p × (bytes ≡ spell p) × (readSpec bytes .state ≡ made p (runOf 0 0) 0)
 unfolding readSpec readState
-read-leaves bytes below z = go (readPlan bytes) refl
+read-accepted bytes below z = go (readPlan bytes) refl
   where
-    go : (r : Reading) → readPlan bytes ≡ r → Leaves bytes (readState (readPlan bytes) .state)
+    go : (r : Reading) → readPlan bytes ≡ r → (p : Plan) × Valid p × (bytes ≡ spell p) × (readState (readPlan bytes) .state ≡ made p (runOf 0 0) 0)
     go (refused n) e = absurd (omega (arith, rw e at z, refused-range bytes n e))
-    go (accepted p) e =
-        let a = accepted-iff bytes below p .0 e in
-        of-made p (a .0) (a .1) (runOf 0 0) 0 (record { in-range = is-range (runOf 0 0) (omega arith); not-past = omega arith }) (rw e refl)
+    go (accepted p) e = let a = accepted-iff bytes below p .0 e in (p, a .0, a .1, rw e refl)
+
+-- the run that a reading leaves
+pub none-opened : Permitted (runOf 0 0) 0
+none-opened = record { in-range = is-range (runOf 0 0) (omega arith); not-past = omega arith }
 
 pub after-leaves : {bytes : List ℕ} {s : Sampler} → After bytes s → Leaves bytes s
 unfolding openSpec stepSpec blockSpec
-after-leaves (read below z) = read-leaves _ below z
+after-leaves (read below z) =
+    let a = read-accepted _ below z in of-made (a .0) (a .1) (a .2) (runOf 0 0) 0 none-opened (a .3)
 after-leaves (opened {s} h r z) =
     let l = after-leaves h in
     let o = open-accepted l r z in
     of-made (l .plan) (l .valid) (l .spelled) r 0 (record { in-range = o .0; not-past = omega arith }) (o .1)
 after-leaves (stepped {s} h buf z) =
     let l = after-leaves h in
-    let left = leb-false (s .count) (s .taken) (none-due 11 (spent s) _ (none-due 14 (foreign s) _ z .1) .0) in
+    let left = run-cleared s buf z .1 in
     next l (runIn s) (s .taken + 1) (record { in-range = l .run .in-range; not-past = omega arith }) (ap (λ (a : _). a .state) (step-done s buf z .0))
 after-leaves (filled {s} h buf z) =
     let l = after-leaves h in
-    let left = leb-false (s .count) (s .taken) (none-due 11 (spent s) _ (none-due 14 (foreign s) _ z .1) .0) in
+    let left = run-cleared s buf z .1 in
     let few = min-le-left (s .count - s .taken) (length buf / s .axes) in
     next l (runIn s) (s .taken + blockSize s buf) (record { in-range = l .run .in-range; not-past = omega arith }) (ap (λ (a : _). a .state) (block-done s buf z .0))
 
@@ -102,7 +107,7 @@ module _ (p : Plan) (v : Valid p) (r : Run) (fits : inRange r ≡ true) where
 
   after-opening : After (spell p) (made p r 0)
   after-opening =
-      let e = open-at p v (runOf 0 0) (is-range (runOf 0 0) (omega arith)) 0 (omega arith) r fits in
+      let e = open-at p v (runOf 0 0) (none-opened .in-range) 0 (omega arith) r fits in
       subst (After (spell p)) (ap (λ (a : _). a .state) e) (opened after-reading r (ap (λ (a : _). a .code) e))
 
   pub after-steps : (taken : ℕ) → taken ≤ r .count → After (spell p) (made p r taken)
@@ -123,6 +128,15 @@ after-iff s = (
 
 pub after-reachable : (s : Sampler) → AfterCalls s ↔ Reachable s
 after-reachable s = (λ h. genuine-iff s .0 (after-iff s .0 h), λ r. after-iff s .1 (genuine-iff s .1 r))
+
+-- ---- the run that the last accepted opening was given
+
+pub last-run : {bytes : List ℕ} {s : Sampler} (h : After bytes s) → runIn s ≡ lastRun h
+unfolding lastRun openSpec stepSpec blockSpec made
+last-run (read below z) = ap runIn (read-accepted _ below z .3)
+last-run (opened {s} h r z) = ap runIn (open-accepted (after-leaves h) r z .1)
+last-run (stepped {s} h buf z) = ap (λ (a : _). runIn (a .state)) (step-done s buf z .0) ∙ last-run h
+last-run (filled {s} h buf z) = ap (λ (a : _). runIn (a .state)) (block-done s buf z .0) ∙ last-run h
 
 -- ---- number 15
 

@@ -5,7 +5,7 @@ use mathlib.Core.List.{List, _++_}
 use Prim.Native.Nat.{ℕ, _≤_, _<_}
 use lib.ListN.{length, take, drop}
 use lib.Seq.{take-at}
-use Rattle.plan.specs.Plan.{Plan, spell}
+use Rattle.plan.specs.Plan.{spell}
 use Rattle.plan.proofs.AcceptLaws.{read-spelled}
 use Rattle.points.specs.Run.{runOf}
 use Rattle.state.specs.State.{made, planIn}

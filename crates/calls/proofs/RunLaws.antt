@@ -5,7 +5,6 @@ use mathlib.Core.Bool.{true}
 use mathlib.Core.List.{List, _++_}
 use Prim.Native.Nat.{ℕ, zero, suc, _+_, _-_, _*_, _/_, _^_, _≤_, _<_, min}
 use native.Mathlib.Nat.{min-le-left}
-use native.Mathlib.Numerals.{add-one}
 use native.Mathlib.Omega.{arith}
 use lib.ListN.{length, take, drop}
 use lib.Seq.{take-at}
@@ -17,7 +16,7 @@ use Rattle.points.proofs.RunLaws.{range-is, run-point, run-point-length}
 use Rattle.state.specs.State.{made, genuine}
 use Rattle.state.proofs.PlanLaws.{plan-in-made}
 use Rattle.state.proofs.GenuineLaws.{made-genuine}
-use Rattle.calls.specs.Calls.{moved, blocked, openSpec, jumpSpec, jumpBuf, runRefusals, stepSpec, stepBuf, blockSize, blockSpec, blockBuf, secondSpec}
+use Rattle.calls.specs.Calls.{moved, blocked, openSpec, jumpSpec, jumpBuf, runRefusals, stepSpec, stepBuf, blockSpec, blockBuf, secondSpec}
 use Rattle.calls.specs.Steps.{stepsPoints, stepsState}
 use Rattle.calls.proofs.CaseLaws.{open-done, jump-done, run-spent, run-clear, step-refused, step-done, block-refused, block-done, second-done}
 
@@ -29,7 +28,7 @@ module _ (p : Plan) (v : Valid p) (r : Run) (fits : inRange r ≡ true) where
 
   module _ (buf : List ℕ) (room : axisCount p ≤ length buf) (taken : ℕ) where
     module _ (h : taken < r .count) where
-      clear : firstDue (runRefusals (made p r taken) buf) ≡ 0
+      pub clear : firstDue (runRefusals (made p r taken) buf) ≡ 0
       unfolding made
       clear = run-clear (made p r taken) buf (is-genuine taken (omega arith)) h room
 

@@ -1,31 +1,34 @@
--- Demand 2 by the calls' own answers: after an accepted reading and an accepted opening, any steps and blocks with room serve the points of the
--- plan that was read, from the start on, exactly as many as the run has, and then 12; and a jump gives the same points. Assumes nothing.
+-- Demand 2 by the calls' own answers: after an accepted reading and an accepted opening, any steps and blocks serve the points of the plan that was
+-- read, from the start on, exactly as many as the run has, and then 12; and a jump gives the same points. Assumes nothing.
 use mathlib.Core.Path.{_≡_, refl, sym, ap, ap₂, _∙_, subst}
 use mathlib.Core.Bool.{true}
-use mathlib.Core.Logic.{_⊎_, inl, inr, ⊎-elim}
+use mathlib.Core.Logic.{_↔_, _⊎_, inl, inr, ⊎-elim}
 use mathlib.Core.List.{List, [], _∷_, _++_}
-use Prim.Native.Nat.{ℕ, zero, suc, _+_, _-_, _*_, _/_, _^_, _≤_, _<_, min}
+use Prim.Native.Nat.{ℕ, zero, suc, _+_, _-_, _*_, _/_, _≤_, _<_, min}
 use native.Mathlib.Nat.{add-zero, add-assoc, zero-mul, one-mul, min-le-left, le-div-iff-mul-le}
 use native.Mathlib.Omega.{arith}
-use lib.ListN.{length, take, drop, length-append}
-use lib.Seq.{take-at, drop-at}
+use lib.ListN.{length, take, drop}
+use lib.Seq.{take-at}
 use Rattle.bits.specs.Stream.{AllBelow}
 use Rattle.numbers.proofs.Cases.{lt-or-ge}
 use Rattle.plan.specs.Plan.{Plan, Valid, spell}
-use Rattle.plan.specs.Order.{unlessNumber}
+use Rattle.plan.specs.Reading.{readPlan}
+use Rattle.plan.specs.Order.{firstDue}
+use Rattle.plan.proofs.AcceptLaws.{read-spelled}
 use Rattle.points.specs.Point.{axisCount, pointOf}
-use Rattle.points.specs.Run.{Run, runOf, inRange, runPoint, runPoints}
+use Rattle.points.specs.Run.{Run, runOf, inRange, runPoints}
 use Rattle.points.proofs.PointLaws.{axis-count, point-of-length}
-use Rattle.points.proofs.RunLaws.{range-is, run-point, run-point-length, run-points-one, run-points-more, run-points-length, run-points-at}
-use Rattle.state.specs.State.{made, runIn}
+use Rattle.points.proofs.RunLaws.{range-is, run-point, run-points-one, run-points-more, run-points-length, run-points-at}
+use Rattle.state.specs.State.{made}
 use Rattle.state.specs.declared.Sampler.{Sampler}
-use Rattle.calls.specs.Calls.{readSpec, openSpec, jumpSpec, jumpBuf, stepSpec, stepBuf, blockSpec, blockBuf}
-use Rattle.calls.specs.History.{After, read, opened, Request, step, block, lentTo, movedBy, writtenBy, stateAfter, pointsServed, AllRoom}
+use Rattle.calls.specs.Calls.{readState, readSpec, openSpec, runRefusals, jumpSpec, jumpBuf, stepSpec, stepBuf, blockSpec}
+use Rattle.calls.specs.History.{read, Request, step, block, lentTo, movedBy, writtenBy, stateAfter, pointsServed, AllRoom}
 use Rattle.calls.specs.Demand2.{ServesRun}
-use Rattle.calls.proofs.RunLaws.{step-at, step-point, step-over, block-at, block-over, jump-at}
-use Rattle.calls.proofs.HistoryLaws.{after-leaves, open-accepted}
+use Rattle.calls.proofs.RunLaws.{clear, step-at, step-point, step-over, block-at, block-over, open-at, jump-at}
+use Rattle.calls.proofs.CaseLaws.{run-cleared, step-refused, block-refused}
+use Rattle.calls.proofs.HistoryLaws.{of-made, none-opened, after-leaves, open-accepted}
 
--- k points of the run, after so many taken, are served: the state that is left, and the points written
+-- many points of the run, after so many taken, are served: the state that is left, and the points written
 pub record Serves (p : Plan) (r : Run) (taken : ℕ) (s : Sampler) (points : List ℕ) : Type 0 where
   pub many : ℕ
   pub within : taken + many ≤ r .count
@@ -40,13 +43,15 @@ module _ (p : Plan) (v : Valid p) (r : Run) (fits : inRange r ≡ true) where
   -- ---- one request
 
   module _ (taken : ℕ) (h : taken ≤ r .count) where
-    nothing : taken ≡ r .count → (q : Request) → axisCount p ≤ length (lentTo q) → Serves p r taken (movedBy q (made p r taken)) (writtenBy q (made p r taken))
+    -- refused
+    nothing : (n : ℕ) (q : Request) → firstDue (runRefusals (made p r taken) (lentTo q)) ≡ suc n
+        → Serves p r taken (movedBy q (made p r taken)) (writtenBy q (made p r taken))
     unfolding movedBy writtenBy runPoints
-    nothing e (step buf) room =
-        let a = step-over p v r fits buf room taken e in
+    nothing n (step buf) e =
+        let a = step-refused (made p r taken) buf n e .0 in
         record { many = 0; within = omega arith; state-is = ap (λ (x : _). x .state) a ∙ ap (made p r) (sym (add-zero taken)); points-are = rw a refl }
-    nothing e (block buf) room =
-        let a = block-over p v r fits buf room taken e in
+    nothing n (block buf) e =
+        let a = block-refused (made p r taken) buf n e .0 in
         record { many = 0; within = omega arith; state-is = ap (λ (x : _). x .state) a ∙ ap (made p r) (sym (add-zero taken)); points-are = rw (a, zero-mul) refl }
 
     some : taken < r .count → (q : Request) → axisCount p ≤ length (lentTo q)
@@ -75,24 +80,29 @@ module _ (p : Plan) (v : Valid p) (r : Run) (fits : inRange r ≡ true) where
           omega (arith, whole (axisCount p) (length buf) (axis-count p v .0) room),
         )
 
+    one : (q : Request) → (s : Serves p r taken (movedBy q (made p r taken)) (writtenBy q (made p r taken)))
+        × (axisCount p ≤ length (lentTo q) → taken < r .count → 1 ≤ s .many)
+    unfolding made
+    one q = go (firstDue (runRefusals (made p r taken) (lentTo q))) refl
+      where
+        go : (n : ℕ) → firstDue (runRefusals (made p r taken) (lentTo q)) ≡ n → (s : Serves p r taken (movedBy q (made p r taken)) (writtenBy q (made p r taken)))
+            × (axisCount p ≤ length (lentTo q) → taken < r .count → 1 ≤ s .many)
+        go zero e = let c = run-cleared (made p r taken) (lentTo q) e in let s = some (c .1) q (c .2) in (s .0, λ room l. s .1)
+        go (suc n) e = (nothing n q e, λ room l. absurd (omega (arith, e, clear p v r fits (lentTo q) room taken l)))
+
   -- ---- requests in a row
 
-  one : (taken : ℕ) → taken ≤ r .count → (q : Request) → axisCount p ≤ length (lentTo q)
-      → (s : Serves p r taken (movedBy q (made p r taken)) (writtenBy q (made p r taken))) × (taken < r .count → 1 ≤ s .many)
-  one taken h q room =
-      ⊎-elim (λ l. let s = some taken h l q room in (s .0, λ m. s .1)) (λ l. (nothing taken h (omega arith) q room, λ m. absurd (omega arith))) (lt-or-ge taken (r .count))
-
   -- each request with room serves a point at least while one is left
-  pub requests-serve : (requests : List Request) → AllRoom (axisCount p) requests → (taken : ℕ) → taken ≤ r .count
+  pub requests-serve : (requests : List Request) (taken : ℕ) → taken ≤ r .count
       → (s : Serves p r taken (stateAfter requests (made p r taken)) (pointsServed requests (made p r taken)))
-      × ((length requests ≤ s .many) ⊎ (taken + s .many ≡ r .count))
+      × (AllRoom (axisCount p) requests → (length requests ≤ s .many) ⊎ (taken + s .many ≡ r .count))
   unfolding stateAfter pointsServed AllRoom runPoints
-  requests-serve [] room taken h =
-      (record { many = 0; within = omega arith; state-is = ap (made p r) (sym (add-zero taken)); points-are = refl }, inl (omega arith))
-  requests-serve (q ∷ requests) room taken h =
-      let a = one taken h q (room .0) in
+  requests-serve [] taken h =
+      (record { many = 0; within = omega arith; state-is = ap (made p r) (sym (add-zero taken)); points-are = refl }, λ room. inl (omega arith))
+  requests-serve (q ∷ requests) taken h =
+      let a = one taken h q in
       let j = a .0 .many in
-      let b = requests-serve requests (room .1) (taken + j) (a .0 .within) in
+      let b = requests-serve requests (taken + j) (a .0 .within) in
       let k = b .0 .many in (
         record {
           many = j + k;
@@ -100,15 +110,14 @@ module _ (p : Plan) (v : Valid p) (r : Run) (fits : inRange r ≡ true) where
           state-is = ap (stateAfter requests) (a .0 .state-is) ∙ b .0 .state-is ∙ ap (made p r) (add-assoc taken j k);
           points-are = ap₂ _++_ (a .0 .points-are) (ap (pointsServed requests) (a .0 .state-is) ∙ b .0 .points-are) ∙ sym (run-points-more p r taken j k);
         },
-        ⊎-elim
-            (λ m. ⊎-elim (λ l. inl (omega (arith, a .1 l, m))) (λ l. inr (omega (arith, b .0 .within))) (lt-or-ge taken (r .count)))
-            (λ e. inr (omega arith)) (b .1),
+        λ room. ⊎-elim
+            (λ m. ⊎-elim (λ l. inl (omega (arith, a .1 (room .0) l, m))) (λ l. inr (omega (arith, b .0 .within))) (lt-or-ge taken (r .count)))
+            (λ e. inr (omega arith)) (b .1 (room .1)),
       )
 
-  pub run-serves : (requests : List Request) → AllRoom (axisCount p) requests
-      → ServesRun p r (length requests) (pointsServed requests (made p r 0)) (stateAfter requests (made p r 0))
-  run-serves requests room =
-      let a = requests-serve requests room 0 (omega arith) in
+  pub run-serves : (requests : List Request) → ServesRun p r requests (pointsServed requests (made p r 0)) (stateAfter requests (made p r 0))
+  run-serves requests =
+      let a = requests-serve requests 0 (omega arith) in
       let k = a .0 .many in
       let zero-k : 0 + k ≡ k = omega arith in
       let s = stateAfter requests (made p r 0) in
@@ -116,7 +125,7 @@ module _ (p : Plan) (v : Valid p) (r : Run) (fits : inRange r ≡ true) where
       record {
         served = k;
         within = omega (arith, a .0 .within);
-        all = λ l. ⊎-elim (λ m. omega (arith, a .0 .within)) (λ e. omega arith) (a .1);
+        all = λ room l. ⊎-elim (λ m. omega (arith, a .0 .within)) (λ e. omega arith) (a .1 room);
         long = ap length (a .0 .points-are) ∙ run-points-length p r 0 k;
         point = λ j l.
             let zero-j : 0 + j ≡ j = omega arith in
@@ -137,20 +146,24 @@ module _ (p : Plan) (v : Valid p) (r : Run) (fits : inRange r ≡ true) where
             );
       }
 
--- Demand 2 as one theorem: bytes read with code 0 are the spelling of one valid plan; a run opened with code 0 is served from its start on, by any
--- steps and blocks that have room.
-pub demand-2 : (bytes : List ℕ) → AllBelow 256 bytes → readSpec bytes .code ≡ 0
-    → (p : Plan) × Valid p × (bytes ≡ spell p)
-    × ((r : Run) → let s = openSpec (readSpec bytes .state) r in s .code ≡ 0
-    → (requests : List Request) → AllRoom (axisCount p) requests
-    → ServesRun p r (length requests) (pointsServed requests (s .state)) (stateAfter requests (s .state)))
-demand-2 bytes below z =
-    let l = after-leaves (read below z) in (
-      l .plan,
-      l .valid,
-      l .spelled,
-      λ r e requests room.
-          let o = open-accepted l r e in
-          subst (λ (s : Sampler). ServesRun (l .plan) r (length requests) (pointsServed requests s) (stateAfter requests s)) (sym (o .1))
-          (run-serves (l .plan) (l .valid) r (o .0) requests room),
-    )
+-- Demand 2 as one theorem. Bytes are read with code 0 exactly where they are the spelling of a valid plan; of that plan a run is opened with code
+-- 0 exactly where it is permitted; and it is then served, from its start on, by any steps and blocks.
+pub demand-2 : (bytes : List ℕ) → AllBelow 256 bytes
+    → ((readSpec bytes .code ≡ 0) ↔ ((p : Plan) × Valid p × (bytes ≡ spell p)))
+    × ((p : Plan) → Valid p → bytes ≡ spell p → (r : Run) → let o = openSpec (readSpec bytes .state) r in
+    ((o .code ≡ 0) ↔ (inRange r ≡ true))
+    × (o .code ≡ 0 → (requests : List Request) → ServesRun p r requests (pointsServed requests (o .state)) (stateAfter requests (o .state))))
+unfolding readSpec readState
+demand-2 bytes below = (
+  (λ z. let l = after-leaves (read below z) in (l .plan, l .valid, l .spelled), λ w. rw (w .2, read-spelled (w .0) (w .1)) refl),
+  λ p v e r.
+      let is : readState (readPlan bytes) .state ≡ made p (runOf 0 0) 0 = rw (e, read-spelled p v) refl in
+      let l = of-made p v e (runOf 0 0) 0 none-opened is in (
+        (λ z. open-accepted l r z .0, λ fits. ap (λ (s : Sampler). openSpec s r .code) is ∙ ap (λ (a : _). a .code) (open-at p v (runOf 0 0) (none-opened .in-range) 0 (omega arith) r fits)),
+        λ z requests.
+            let fits = open-accepted l r z .0 in
+            let left : openSpec (readState (readPlan bytes) .state) r .state ≡ made p r 0 =
+            ap (λ (s : Sampler). openSpec s r .state) is ∙ ap (λ (a : _). a .state) (open-at p v (runOf 0 0) (none-opened .in-range) 0 (omega arith) r fits) in
+            subst (λ (s : Sampler). ServesRun p r requests (pointsServed requests s) (stateAfter requests s)) (sym left) (run-serves p v r fits requests),
+      ),
+)

@@ -8,14 +8,15 @@ use Rattle.plan.specs.Plan.{Plan}
 use Rattle.points.specs.Point.{axisCount, pointOf}
 use Rattle.points.specs.Run.{Run}
 use Rattle.state.specs.declared.Sampler.{Sampler}
+use Rattle.calls.specs.History.{Request, AllRoom}
 use Rattle.calls.specs.Calls.{jumpSpec, jumpBuf, stepSpec, stepBuf, blockSpec}
 
--- So many calls served the run's first points and left the state s.
-pub record ServesRun (p : Plan) (r : Run) (calls : ℕ) (points : List ℕ) (s : Sampler) : Type 0 where
+-- Steps and blocks served the run's first points and left the state s.
+pub record ServesRun (p : Plan) (r : Run) (requests : List Request) (points : List ℕ) (s : Sampler) : Type 0 where
   pub served : ℕ
-  -- never more points than the run has, and all of them after as many calls
+  -- never more points than the run has, and all of them after as many calls that have room
   pub within : served ≤ r .count
-  pub all : r .count ≤ calls → served ≡ r .count
+  pub all : AllRoom (axisCount p) requests → r .count ≤ length requests → served ≡ r .count
   -- point number k is the plan's at index start + k
   pub long : length points ≡ served * axisCount p
   pub point : (k : ℕ) → k < served → take (axisCount p) (drop (k * axisCount p) points) ≡ pointOf p (r .start + k)

@@ -6,7 +6,7 @@ use Prim.Native.Nat.{ℕ, _*_, _≤_}
 use lib.ListN.{length, take}
 use Rattle.bits.specs.Stream.{AllBelow}
 use Rattle.plan.specs.Order.{unlessNumber}
-use Rattle.points.specs.Run.{Run}
+use Rattle.points.specs.Run.{Run, runOf}
 use Rattle.state.specs.declared.Sampler.{Sampler}
 use Rattle.calls.specs.Calls.{readSpec, openSpec, stepSpec, stepBuf, blockSpec, blockBuf}
 
@@ -16,6 +16,13 @@ pub data After (bytes : List ℕ) : Sampler → Type 0 where
   opened : {s : Sampler} → After bytes s → (r : Run) → openSpec s r .code ≡ 0 → After bytes (openSpec s r .state)
   stepped : {s : Sampler} → After bytes s → (buf : List ℕ) → stepSpec s buf .code ≡ 0 → After bytes (stepSpec s buf .state)
   filled : {s : Sampler} → After bytes s → (buf : List ℕ) → blockSpec s buf .code ≡ 0 → After bytes (blockSpec s buf .state)
+
+-- the run that the last accepted opening was given, or start 0 and count 0 after a reading alone
+unfoldable pub lastRun : {bytes : List ℕ} {s : Sampler} → After bytes s → Run
+lastRun (read below z) = runOf 0 0
+lastRun (opened h r z) = r
+lastRun (stepped h buf z) = lastRun h
+lastRun (filled h buf z) = lastRun h
 
 -- some accepted calls leave the state
 abbrev pub AfterCalls : Sampler → Type 0

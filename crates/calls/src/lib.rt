@@ -1,4 +1,4 @@
-// What the sampler's calls answer: structs, definitions and laws. A call that is turned down answers its number and the state as given.
+// What the sampler's calls answer: structs, definitions and laws. A call on a state that is turned down answers its number and the state as given.
 use state::Sampler;
 ghost use mathlib.Core.Path.{_≡_};
 ghost use Rattle.calls.specs.Calls.{moved};

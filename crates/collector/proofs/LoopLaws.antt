@@ -1,17 +1,18 @@
 -- How the main loop goes on and stops: a step that answers 0 leaves one point fewer, and what is left is served from there. Assumes nothing.
 use mathlib.Core.Path.{_≡_, refl, sym, _∙_}
 use mathlib.Core.Bool.{Bool, true, false, not}
+use mathlib.Core.Logic.{⊎-elim}
 use mathlib.Core.List.{List}
 use Prim.Native.Nat.{ℕ, zero, suc, _<_}
 use native.Mathlib.Omega.{arith}
-use borrow.Author.Tests.{eq-eqb, ne-eqb, leb-false}
+use borrow.Author.Tests.{eq-eqb, ne-eqb}
 use lib.Dec.{T, eqb, eqb→eq, eqb-refl, T-not}
 use Rattle.plan.specs.Order.{firstDue}
-use Rattle.plan.proofs.OrderLaws.{none-due}
+use Rattle.numbers.proofs.Cases.{eq-or-ne}
 use Rattle.state.specs.State.{made}
 use Rattle.state.specs.declared.Sampler.{Sampler}
-use Rattle.calls.specs.Calls.{foreign, spent, runRefusals, stepSpec, stepBuf}
-use Rattle.calls.proofs.CaseLaws.{step-done}
+use Rattle.calls.specs.Calls.{runRefusals, stepSpec, stepBuf}
+use Rattle.calls.proofs.CaseLaws.{run-cleared, step-done}
 use Rattle.collector.specs.Serving.{ended, stepped, servedWithin, left, served}
 
 module _ (s : Sampler) (words : List ℕ) where
@@ -22,7 +23,7 @@ module _ (s : Sampler) (words : List ℕ) where
   one-fewer : stepSpec s words .code ≡ 0 → suc (left (stepSpec s words .state)) ≡ left s
   unfolding made
   one-fewer z =
-      let more = leb-false (s .count) (s .taken) (none-due 11 (spent s) _ (none-due 14 (foreign s) _ (clear z) .1) .0) in
+      let more = run-cleared s words (clear z) .1 in
       rw (step-done s words (clear z) .0) (omega arith)
 
   stops-at : (k : ℕ) → (stepSpec s words .code ≡ 0 → ⊥) → stepped s words ≡ servedWithin k s words
@@ -48,6 +49,21 @@ module _ (s : Sampler) (words : List ℕ) where
           rw (← fewer, said .1, said .2) (goes-to (left (stepSpec s words .state)) zero-now),
           omega arith,
         )
+
+-- the number that ends the loop is never 0: a step that answers 0 had a point left
+ends-within : (k : ℕ) (s : Sampler) (words : List ℕ) → left s ≡ k → servedWithin k s words .code ≡ 0 → ⊥
+unfolding servedWithin
+ends-within zero s words e z = omega (arith, one-fewer s words z)
+ends-within (suc k) s words e z =
+    ⊎-elim
+    (λ (c : stepSpec s words .code ≡ 0).
+    ends-within k (stepSpec s words .state) (stepBuf s words) (omega (arith, one-fewer s words c)) (rw (eq-eqb (stepSpec s words .code) 0 c) at z))
+    (λ (f : stepSpec s words .code ≡ 0 → ⊥). f (rw (ne-eqb (stepSpec s words .code) 0 f) at z))
+    (eq-or-ne (stepSpec s words .code) 0)
+
+pub ends : (s : Sampler) (words : List ℕ) → served s words .code ≡ 0 → ⊥
+unfolding served
+ends s words = ends-within (left s) s words refl
 
 -- ---- the test of the number
 

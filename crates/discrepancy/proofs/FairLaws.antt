@@ -44,7 +44,7 @@ fair-none N Ok =
 
 -- All steps are a progression.
 pub fair-near : {N : ℕ} {Ok : ℕ → Type 0} {g : ℕ → Bool} {U Q B : ℕ} → Fair N Ok g U Q B → Ok 1 → Near N (count g N) U Q B
-fair-near {N} {Ok} {g} {U} {Q} {B} F ok = record { crowded = omega (arith, w .over); neglected = omega (arith, w .short) }
+fair-near {N} {Ok} {g} {U} {Q} {B} F ok = record { not-above = omega (arith, w .over); not-below = omega (arith, w .short) }
   where
     w : Within 1 (1 * Q) (count g N) (N * U) B
     w =

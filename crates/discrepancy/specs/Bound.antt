@@ -49,8 +49,8 @@ bound b s N = productTo (factorAt b N) s
 -- S, how many of N points are inside, differs from N times U / Q by less than B, U being the product of all u and Q that of all q. Multiplied
 -- out over whole numbers: the size of S × Q - N × U is less than B × Q.
 pub record Near (N S U Q B : ℕ) : Type 0 where
-  pub crowded : S * Q < N * U + B * Q
-  pub neglected : N * U < S * Q + B * Q
+  pub not-above : S * Q < N * U + B * Q
+  pub not-below : N * U < S * Q + B * Q
 
 -- the bases, the u and the q of axes
 abbrev pub baseOf : (ℕ → CutAxis) → ℕ → ℕ

@@ -1,10 +1,9 @@
 -- The window count: whether bytes are a window, what putting S and the bound leaves, and each answer from the tests that lead to it. Assumes
 -- nothing.
-use mathlib.Core.Path.{_≡_, refl, sym, ap, _∙_}
+use mathlib.Core.Path.{_≡_, refl, sym, _∙_}
 use mathlib.Core.Bool.{true, false, and-eq-true-iff}
 use mathlib.Core.List.{List, [], _∷_, _++_}
 use Prim.Native.Nat.{ℕ, _*_}
-use native.Mathlib.Omega.{arith}
 use lib.Dec.{eqb}
 use lib.ListN.{length, drop}
 use borrow.Author.Tests.{eq-eqb, ne-eqb, eqb-true}
@@ -15,7 +14,6 @@ use Rattle.plan.specs.Plan.{Plan, Valid}
 use Rattle.plan.specs.Reading.{refused, accepted, readPlan}
 use Rattle.plan.specs.Order.{firstDue}
 use Rattle.plan.proofs.OrderLaws.{unless-none, unless-turned}
-use Rattle.points.specs.Point.{axisCount}
 use Rattle.points.specs.Run.{Run}
 use Rattle.state.proofs.StateLaws.{Holds}
 use Rattle.window.specs.Counting.{isWindow}

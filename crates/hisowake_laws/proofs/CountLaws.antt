@@ -1,27 +1,24 @@
 -- The C window count is a reading, an opening and a count: it answers the first number that these give, and leaves the bytes of what the count
 -- answers; so demand 3 holds of the two numbers that it writes. Assumes nothing.
 use mathlib.Core.Path.{_≡_, refl, ap, _∙_}
-use mathlib.Core.Bool.{true, false}
+use mathlib.Core.Bool.{true, false, cond}
 use mathlib.Core.Logic.{⊎-elim}
-use mathlib.Core.List.{List, [], _∷_, _++_}
+use mathlib.Core.List.{List, _++_}
 use Prim.Native.Nat.{ℕ, _*_}
 use native.Mathlib.Omega.{arith}
-use lib.Dec.{ltb}
 use lib.ListN.{length, take, drop}
 use lib.Seq.{take-at}
 use borrow.Author.Tests.{eq-eqb, ne-eqb}
 use Rattle.numbers.proofs.Cases.{true-or-false}
 use Rattle.bits.specs.Stream.{AllBelow}
-use Rattle.discrepancy.specs.Bound.{Near}
-use Rattle.plan.specs.Plan.{Plan, Valid, spell}
+use Rattle.plan.specs.Plan.{Plan, Valid}
 use Rattle.plan.specs.Reading.{Reading, refused, accepted, readPlan}
-use Rattle.plan.specs.Order.{_when_, firstDue, unlessNumber, unlessDue}
+use Rattle.plan.specs.Order.{firstDue, unlessDue}
 use Rattle.plan.proofs.AcceptLaws.{accepted-iff}
 use Rattle.plan.proofs.OrderLaws.{unless-none}
 use Rattle.plan.proofs.RefusalLaws.{refused-range}
 use Rattle.points.specs.Point.{axisCount}
 use Rattle.points.specs.Run.{Run, runOf, inRange}
-use Rattle.points.specs.Arrays.{familyOf}
 use Rattle.points.proofs.RunLaws.{is-range}
 use Rattle.state.specs.State.{made}
 use Rattle.state.proofs.GenuineLaws.{made-genuine}
@@ -30,11 +27,11 @@ use Rattle.calls.specs.Calls.{moved, readState, readSpec, openSpec}
 use Rattle.calls.proofs.CaseLaws.{open-out}
 use Rattle.calls.proofs.RunLaws.{open-at}
 use Rattle.window.specs.Counting.{insideCount, boundOf, cutsOf, isWindow}
-use Rattle.window_count.specs.Call.{countSpec}
 use Rattle.window_count.proofs.CaseLaws.{count-off}
-use Rattle.window_count.proofs.Demand3.{uProduct, qProduct, count-left, plan-near}
+use Rattle.window_count.proofs.Demand3.{count-left, plan-near}
 use Rattle.big_endian.specs.Bytes.{wordBytes, windowIn}
 use Rattle.big_endian.proofs.ByteLaws.{length-words}
+use Rattle.hisowake_laws.specs.AsCalls.{AsCalls, NearInC}
 use Rattle.hisowake.specs.Calls.{isWindowBytes, answersOf, countOrder, countCodeBy, countCode, countBytesBy, countBytes}
 use Rattle.c_refusals.proofs.RefusalLaws.{count-zero}
 use Rattle.hisowake.proofs.CountLaws.{window-bytes}
@@ -43,15 +40,6 @@ module _ (plan : List ℕ) (below : AllBelow 256 plan) (p : Plan) (e : readPlan 
   -- the numbers of the window's bytes
   abbrev w : List ℕ
   w = windowIn window (axisCount p)
-
-  -- what the calls answer and leave, one after the other
-  pub AsCalls : Type 0
-  AsCalls =
-      let a = readSpec plan in
-      let o = openSpec (a .state) r in
-      let c = countSpec (o .state) w in
-      (countCode plan r window out ≡ unlessNumber (a .code) (unlessNumber (o .code) (unlessNumber (c .code) (firstDue (13 when ltb (length out) 16 ∷ [])) (c .code)) (o .code)) (a .code))
-      × (countBytes plan r window out ≡ unlessNumber (countCode plan r window out) (wordBytes (c .inside ∷ c .bound ∷ []) ++ drop 16 out) out)
 
   valid : Valid p
   valid = accepted-iff plan below p .0 e .0
@@ -68,7 +56,7 @@ module _ (plan : List ℕ) (below : AllBelow 256 plan) (p : Plan) (e : readPlan 
   window-is = rw (eq-eqb (length window) (8 * axisCount p) long) refl
 
   -- the run is too long
-  out-of-range : inRange r ≡ false → AsCalls
+  out-of-range : inRange r ≡ false → AsCalls plan p r window out
   unfolding AsCalls countCode countCodeBy countBytes countBytesBy firstDue unlessDue
   out-of-range h =
       let g = made-genuine p valid (runOf 0 0) 0 (record { in-range = none; not-past = omega arith }) in
@@ -80,28 +68,30 @@ module _ (plan : List ℕ) (below : AllBelow 256 plan) (p : Plan) (e : readPlan 
     open-is = open-at p valid (runOf 0 0) none 0 (omega arith) r h
 
     -- the window is none
-    off : isWindow w (axisCount p) ≡ false → AsCalls
+    off : isWindow w (axisCount p) ≡ false → AsCalls plan p r window out
     unfolding AsCalls countCode countCodeBy countBytes countBytesBy firstDue unlessDue made
     off f =
         let g = made-genuine p valid r 0 (record { in-range = h; not-past = omega arith }) in
         let c = count-off (made p r 0) w g f in
         rw (e, read-is, open-is, c, h, window-is, f) (refl, refl)
 
-    counts : isWindow w (axisCount p) ≡ true → AsCalls
+    counts : isWindow w (axisCount p) ≡ true → AsCalls plan p r window out
     unfolding AsCalls countCode countCodeBy countBytes countBytesBy firstDue unlessDue answersOf
     counts t =
         let c = count-left (left-by p valid r 0 (record { in-range = h; not-past = omega arith })) w t in
         rw (e, read-is, open-is, c, h, window-is, t) (refl, refl)
 
-  pub count-as-calls : AsCalls
+  pub count-as-calls : AsCalls plan p r window out
   count-as-calls =
       ⊎-elim (λ h. ⊎-elim (λ t. counts h t) (λ f. off h f) (true-or-false (isWindow w (axisCount p)))) (λ h. out-of-range h) (true-or-false (inRange r))
 
 -- a window of another length is turned down after the run, as a list of numbers of another length is
 pub count-of-other-length : (plan : List ℕ) (p : Plan) → readPlan plan ≡ accepted p → (r : Run) (window out : List ℕ) → (length window ≡ 8 * axisCount p → ⊥)
-    → inRange r ≡ true → (countCode plan r window out ≡ 14) × (countBytes plan r window out ≡ out)
+    → (countCode plan r window out ≡ cond (inRange r) 14 11) × (countBytes plan r window out ≡ out)
 unfolding countCode countCodeBy countBytes countBytesBy firstDue unlessDue isWindowBytes
-count-of-other-length plan p e r window out f h = rw (e, h, ne-eqb (length window) (8 * axisCount p) f) (refl, refl)
+count-of-other-length plan p e r window out f =
+    ⊎-elim (λ (h : inRange r ≡ true). rw (e, ne-eqb (length window) (8 * axisCount p) f, h) (refl, refl))
+    (λ (h : inRange r ≡ false). rw (e, h) (refl, refl)) (true-or-false (inRange r))
 
 -- a refused plan gives the reading's number
 pub count-of-refused : (plan : List ℕ) (n : ℕ) → readPlan plan ≡ refused n → (r : Run) (window out : List ℕ)
@@ -110,19 +100,6 @@ unfolding countCode countCodeBy countBytes countBytesBy
 count-of-refused plan n e r window out = rw e (refl, refl)
 
 -- ---- Demand 3 for the two numbers that the C count writes
-
--- The bytes are a valid plan's; the first 16 bytes that are left are S and the bound; and if the plan is of a Halton family, S lies within the bound
--- of the window's share.
-pub record NearInC (plan : List ℕ) (r : Run) (window out : List ℕ) : Type 0 where
-  pub of : Plan
-  pub valid : Valid of
-  pub spelled : plan ≡ spell of
-  pub inside : ℕ
-  pub bound : ℕ
-  pub bytes : take 16 (countBytes plan r window out) ≡ wordBytes (inside ∷ bound ∷ [])
-  pub inside-is : inside ≡ insideCount of (cutsOf (windowIn window (axisCount of)) (axisCount of)) r
-  pub bound-is : bound ≡ boundOf of (r .count)
-  pub near : (familyOf of ≡ 2 → ⊥) → let w = windowIn window (axisCount of) in Near (r .count) inside (uProduct w (axisCount of)) (qProduct w (axisCount of)) bound
 
 pub demand-3-in-c : (plan : List ℕ) → AllBelow 256 plan → (r : Run) (window out : List ℕ) → countCode plan r window out ≡ 0 → NearInC plan r window out
 unfolding countCode countCodeBy countBytes countBytesBy answersOf

@@ -28,16 +28,10 @@ use Rattle.calls.proofs.CaseLaws.{jump-foreign, jump-out, jump-no-room, jump-do
 use Rattle.c_refusals.specs.Refusals.{pointRefusals}
 use Rattle.c_refusals.proofs.RefusalLaws.{point-out, point-no-room, point-none}
 use Rattle.big_endian.specs.Bytes.{wordBytes}
+use Rattle.hisowake_laws.specs.AsCalls.{AsSampler}
 use Rattle.hisowake.specs.Calls.{pointCode, pointBytes}
 use Rattle.big_endian.proofs.ByteLaws.{length-words, words-append, words-drop}
 use Rattle.hisowake.proofs.CallLaws.{point-refused, point-turned, point-done}
-
--- what the call answers and leaves is what a reading, and then a jump on the words, answer and leave
-abbrev pub AsSampler : List ℕ → ℕ → List ℕ → List ℕ → Type 0
-AsSampler plan index words rest =
-    (pointCode plan index (wordBytes words ++ rest)
-    ≡ unlessNumber (readSpec plan .code) (jumpSpec (readSpec plan .state) index words .code) (readSpec plan .code))
-    × (pointBytes plan index (wordBytes words ++ rest) ≡ wordBytes (jumpBuf (readSpec plan .state) index words) ++ rest)
 
 module _ (plan : List ℕ) (index : ℕ) (words rest : List ℕ) (short : length rest < 8) where
   out-length : length (wordBytes words ++ rest) ≡ 8 * length words + length rest

@@ -1,5 +1,5 @@
 -- A number is given exactly where its condition holds and nothing earlier in the order does; the call succeeds where none holds. Assumes nothing.
-use mathlib.Core.Path.{_≡_, refl, sym, ap, _∙_, subst}
+use mathlib.Core.Path.{_≡_, refl, sym, subst}
 use mathlib.Core.Bool.{Bool, true, false, cond}
 use mathlib.Core.Logic.{_↔_}
 use mathlib.Core.List.{List, [], _∷_}
@@ -57,7 +57,7 @@ module _ (n : ℕ) (b : Bool) (order : List Condition) where
       go true h = absurd (omega (arith, rw h at e))
       go false h = (h, rw h at e)
 
-  -- another number than the first is due where it is among the rest
+  -- a number that is not the first's, and is not due among the rest, is not due
   pub other-due : (m : ℕ) → (n ≡ m → ⊥) → (firstDue order ≡ m → ⊥) → firstDue (n when b ∷ order) ≡ m → ⊥
   unfolding firstDue
   other-due m f g e = go b refl

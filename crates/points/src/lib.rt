@@ -1,6 +1,6 @@
 // The points of a plan held in arrays: by jump and by steps.
 ghost use mathlib.Core.Path.{_≡_};
-ghost use Prim.Native.Nat.{_+_, _^_, _<_, _≤_};
+ghost use Prim.Native.Nat.{_+_, _^_, _<_};
 ghost use Rattle.points.specs.Run.{runOf, inRange};
 ghost use Rattle.points.specs.Arrays.{numeratorAt, pointAt, denominatorAt, BaseAt, AxisAt, Arrays};
 

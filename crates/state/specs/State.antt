@@ -13,7 +13,7 @@ use Rattle.points.specs.Run.{Run, runOf, inRange, runPoint}
 use Rattle.points.specs.Arrays.{familyOf, basesArray, polynomialsArray, directionsArray}
 use Rattle.state.specs.declared.Sampler.{Sampler}
 
--- The kit's `_&&_` computes as soon as it can, so that the laws below could not find its two tests again: this one stays shut.
+-- The kit's `_&&_` computes as soon as it can, so that the laws of state/proofs could not find its two tests again: this one stays shut.
 unfoldable pub both : Bool → Bool → Bool
 both true b = b
 both false b = false

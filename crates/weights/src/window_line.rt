@@ -137,7 +137,7 @@ fn bad_fraction(j: Job, axis: usize, wrong: u64) -> Job {
 // Counts a window, and prints its row.
 fn count(j: Job, w: &[u64]) -> Job {
     let s = j.state;
-    let r = window_count::count(s, w);
+    let r = sampler::count(s, w);
     if r.code != 0 {
         let next = job::fail(j);
         say(b"the window is refused: ");

@@ -3,13 +3,11 @@
 use mathlib.Core.Path.{_≡_, refl}
 use mathlib.Core.Bool.{true}
 use mathlib.Core.List.{List}
-use Prim.Native.Nat.{ℕ, _+_}
+use Prim.Native.Nat.{ℕ}
 use native.Mathlib.Nat.{one-mul, eq-one-of-dvd-one}
 use native.Mathlib.Omega.{arith}
 use lib.ListN.{length, getD}
-use Rattle.numbers.specs.Count.{each}
 use Rattle.numbers.specs.Depth.{denominator}
-use Rattle.numbers.specs.Digits.{productTo}
 use Rattle.numbers.proofs.CountLaws.{count-ext}
 use Rattle.numbers.proofs.EachLaws.{each-ext}
 use Rattle.permutation.specs.Families.{imageOf}
@@ -17,11 +15,11 @@ use Rattle.permutation.proofs.FamilyLaws.{image-permutes}
 use Rattle.halton.specs.Axis.{numerator}
 use Rattle.discrepancy.specs.Bound.{CutAxis, axisIn, inCut, inside, Near, haltonAxes}
 use Rattle.discrepancy.proofs.BoundLaws.{halton-near}
-use Rattle.plan.specs.Plan.{Plan, halton, Valid}
+use Rattle.plan.specs.Plan.{halton, Valid}
 use Rattle.points.specs.Point.{axisCount, numeratorOf, denominatorOf}
 use Rattle.points.specs.Run.{Run, indexAt, inRange, runNumerator}
 use Rattle.points.proofs.RunLaws.{range-is}
-use Rattle.window.specs.Counting.{Cut, uOf, qOf, axisInside, stepInside, insideCount, baseAt, boundOf, Cuts}
+use Rattle.window.specs.Counting.{Cut, uOf, qOf, uProduct, qProduct, axisInside, stepInside, insideCount, baseAt, boundOf, Cuts}
 
 module _ (family : ℕ) (bases : List ℕ) (w : List Cut) (r : Run) where
   abbrev images : ℕ → ℕ → ℕ
@@ -39,7 +37,7 @@ module _ (family : ℕ) (bases : List ℕ) (w : List Cut) (r : Run) where
   -- For every accepted Halton-family plan, plain or permuted, every permitted run and every cut u / q with q ≥ 1 and 0 ≤ u ≤ q on each axis: the
   -- size of S × Q - N × U is less than bound × Q.
   pub demand-3 : Valid (halton family bases) → inRange r ≡ true → Cuts w (length bases)
-      → Near (r .count) (insideCount (halton family bases) w r) (productTo (uOf w) (length bases)) (productTo (qOf w) (length bases))
+      → Near (r .count) (insideCount (halton family bases) w r) (uProduct w (length bases)) (qProduct w (length bases))
       (boundOf (halton family bases) (r .count))
   unfolding Valid insideCount stepInside axisCount boundOf inside
   demand-3 v fits cuts =

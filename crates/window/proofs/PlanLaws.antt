@@ -1,15 +1,15 @@
 -- The walk over a plan's arrays counts the plan's points, and the bound by them is the plan's. Assumes nothing.
 use mathlib.Core.Path.{_≡_, refl, sym, ap, _∙_}
 use mathlib.Core.Logic.{⊎-elim}
-use mathlib.Core.List.{List, [], _∷_, _++_}
-use Prim.Native.Nat.{ℕ, zero, suc, _+_, _<_, _≤_}
+use mathlib.Core.List.{List, [], _∷_}
+use Prim.Native.Nat.{ℕ, zero, suc, _+_, _<_}
 use native.Mathlib.Nat.{add-zero, le-of-suc-le-suc, eq-or-lt-of-le}
 use native.Mathlib.Omega.{arith}
 use lib.Dec.{eqb}
 use lib.ListN.{length, getD, length-append, List·getD-append}
 use lib.Seq.{getD-append-add}
 use borrow.Author.Tests.{ne-eqb}
-use Rattle.numbers.specs.Count.{count, each}
+use Rattle.numbers.specs.Count.{count}
 use Rattle.numbers.specs.Digits.{productTo}
 use Rattle.numbers.specs.Listed.{padded}
 use Rattle.numbers.proofs.CountLaws.{count-ext}
@@ -21,7 +21,7 @@ use Rattle.points.specs.Point.{axisCount}
 use Rattle.points.specs.Run.{Run, indexAt, runNumerator}
 use Rattle.points.specs.Arrays.{familyOf, basesArray, directionsArray}
 use Rattle.points.proofs.ArrayLaws.{numerator-at-plan, denominator-at-plan}
-use Rattle.window.specs.Counting.{Cut, noCut, axisInside, stepInside, insideCount, baseAt, boundOf, cutAt, cutsOf}
+use Rattle.window.specs.Counting.{noCut, axisInside, stepInside, insideCount, baseAt, boundOf, cutAt, cutsOf}
 use Rattle.window.specs.Walking.{axisInsideBy, insideFrom, boundBy}
 
 -- ---- the cuts of a list of numbers

@@ -7,7 +7,7 @@ use native.Mathlib.Nat.{zero-mul}
 use native.Mathlib.Omega.{arith}
 use lib.ListN.{length, getD}
 use borrow.Author.Tests.{le-ltb}
-use Rattle.numbers.specs.Count.{count, each}
+use Rattle.numbers.specs.Count.{count}
 use Rattle.numbers.specs.Cut.{belowCut}
 use Rattle.numbers.specs.Digits.{digitCountIn, digitCount, productTo}
 use Rattle.numbers.proofs.CountLaws.{count-ext, count-all, count-none}

@@ -7,6 +7,7 @@ use lib.Dec.{ltb, leb, eqb}
 use lib.ListN.{length, getD}
 use Rattle.numbers.specs.Count.{count, each}
 use Rattle.numbers.specs.Cut.{belowCut}
+use Rattle.numbers.specs.Digits.{productTo}
 use Rattle.discrepancy.specs.Bound.{bound}
 use Rattle.plan.specs.Plan.{Plan, halton, sobol}
 use Rattle.points.specs.Point.{axisCount, denominatorOf}
@@ -25,6 +26,13 @@ uOf w i = getD w i noCut .u
 
 abbrev pub qOf : List Cut → ℕ → ℕ
 qOf w i = getD w i noCut .q
+
+-- U and Q: the products of the u and of the q of s axes
+abbrev pub uProduct : List Cut → ℕ → ℕ
+uProduct w s = productTo (uOf w) s
+
+abbrev pub qProduct : List Cut → ℕ → ℕ
+qProduct w s = productTo (qOf w) s
 
 -- ---- the points inside
 

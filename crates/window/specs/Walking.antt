@@ -1,4 +1,4 @@
--- A window over a run held in arrays. Definitions only.
+-- A window over a run of a plan that is held in arrays. Definitions only.
 use mathlib.Core.Bool.{Bool, true, false}
 use mathlib.Core.List.{List}
 use Prim.Native.Nat.{ℕ, _+_, _*_, _^_, _≤_, _<_}

@@ -10,7 +10,6 @@ use borrow.Author.Tests.{not-false}
 use Rattle.numbers.specs.Count.{count}
 use Rattle.plan.specs.Order.{firstDue, unlessDue}
 use Rattle.plan.proofs.OrderLaws.{none-due, other-due, none-given}
-use Rattle.points.specs.Run.{Run}
 use Rattle.state.specs.State.{planIn, runIn, genuine}
 use Rattle.state.specs.declared.Sampler.{Sampler}
 use Rattle.state.proofs.GenuineLaws.{Genuine, genuine-is}

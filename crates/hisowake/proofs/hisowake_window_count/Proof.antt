@@ -8,7 +8,6 @@ use Rattle.bits.proofs.StreamLaws.{below-of}
 use Rattle.plan.specs.Reading.{accepted, readPlan}
 use Rattle.plan.specs.Answer.{planAnswered, Accepted}
 use Rattle.plan.proofs.AnswerLaws.{read-refused}
-use Rattle.points.specs.Point.{axisCount}
 use Rattle.state.proofs.StateLaws.{accepted-few}
 use Rattle.points.specs.Run.{runOf}
 use Rattle.plan.specs.Order.{firstDue}

@@ -1,6 +1,5 @@
 -- A refused reading hands back the blank state, an accepted one the state made of its plan. Assumes nothing.
 use mathlib.Core.Path.{sym, ap, _∙_}
-use Prim.Native.Nat.{_-_}
 use native.Mathlib.Omega.{arith}
 use Rattle.bits.proofs.StreamLaws.{below-of}
 use Rattle.points.specs.Run.{runOf}

@@ -1,7 +1,6 @@
 -- A foreign state is refused; of a genuine one the writer of plans says the rest. Assumes nothing.
 use mathlib.Core.Path.{_≡_, sym}
 use mathlib.Core.Bool.{true, false}
-use Prim.Native.Nat.{_-_}
 use borrow.Author.Needs.{needs}
 use Rattle.state.specs.State.{genuine}
 use Rattle.calls.proofs.CaseLaws.{foreign-of, known-of, write-foreign, write-as-written}
