@@ -39,7 +39,7 @@ pub extern "C" fn bench_jumps(plan: &[u8], first: u64, rounds: u64, out: &mut [u
     let mut code = 0;
     let mut i = 0;
     while i < rounds {
-        let j = sampler::jump(s, (first ^ i) % 4294967296, out);
+        let j = sampler::jump(s, (first ^ i) % numbers::INDEXES, out);
         code = j.code;
         i += 1;
     }
@@ -60,7 +60,7 @@ pub extern "C" fn bench_axis_jumps(family: u64, b: u64, first: u64, rounds: u64)
     let mut x = 0;
     let mut i = 0;
     while i < rounds {
-        let r = halton::jump(family, b, &[], (first ^ i) % 4294967296);
+        let r = halton::jump(family, b, &[], (first ^ i) % numbers::INDEXES);
         x = x ^ r.numerator;
         i += 1;
     }

@@ -7,7 +7,7 @@ use native.Mathlib.Nat.{div-add-mod'}
 use native.Mathlib.Omega.{arith}
 use lib.ListN.{getD}
 use Rattle.numbers.proofs.DigitLaws.{pow-pos}
-use Rattle.columns.specs.Tiles.{Tiled, Table, Splits, runOf}
+use Rattle.columns.specs.Tiles.{Tiled, Table, Splits, tileOf}
 
 module _ {g : ℕ → ℕ} {b size : ℕ} {t : List ℕ} (a : Table g b size t) where
   pub table-pos : 0 < b → 0 < size
@@ -28,7 +28,7 @@ module _ {g : ℕ → ℕ} {b size : ℕ} {t : List ℕ} (a : Table g b size t) 
 
     -- a part of the rows, row 0 being index n, is a run of the table
     pub tile-run : (n : ℕ) {lo hi r end base : ℕ} → Tiled (n + lo) size lo hi r end → base ≡ g (n + lo - r) → (k : ℕ) → lo ≤ k → k < end
-        → runOf op base t lo r k ≡ g (n + k)
-    unfolding runOf
+        → tileOf op base t lo r k ≡ g (n + k)
+    unfolding tileOf
     tile-run n {lo} {hi} {r} {end} {base} p e k h q =
         rw (e, p .remainder) (tile (n + lo) (k - lo) (omega (arith, p)) ∙ ap g {x = n + lo + (k - lo)} {y = n + k} (omega arith))

@@ -28,6 +28,6 @@ pub record Table (g : ℕ → ℕ) (b size : ℕ) (t : List ℕ) : Type 0 where
 pub record Splits (op : ℕ → ℕ → ℕ) (g : ℕ → ℕ) (b : ℕ) : Type 0 where
   pub at : (e q r : ℕ) → r < b ^ e → g (q * b ^ e + r) ≡ op (g (q * b ^ e)) (g r)
 
--- what a run from row lo on has: base and the table's entry, from entry r on, put together by op
-unfoldable pub runOf : (ℕ → ℕ → ℕ) → ℕ → List ℕ → ℕ → ℕ → ℕ → ℕ
-runOf op base t lo r i = op base (getD t (i - lo + r) 0)
+-- what a part from row lo on has: base and the table's entry, from entry r on, put together by op
+unfoldable pub tileOf : (ℕ → ℕ → ℕ) → ℕ → List ℕ → ℕ → ℕ → ℕ → ℕ
+tileOf op base t lo r i = op base (getD t (i - lo + r) 0)

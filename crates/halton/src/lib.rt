@@ -32,7 +32,7 @@ pub fn jump(family: u64, b: u64, images: &[u8], n: u64) -> Reversed
     let mut rest = numbers::quotient(n, b, m);
     let mut x = digit_image(family, b, images, n - rest * b);
     let mut p = b;
-    while p < 4294967296 {
+    while p < numbers::INDEXES {
         let q = rest * m / 4294967296;
         x = x * b + digit_image(family, b, images, rest - q * b);
         rest = q;

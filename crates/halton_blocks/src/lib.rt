@@ -3,7 +3,7 @@
 ghost use Prim.Native.Nat.{ℕ, _+_, _-_, _*_, _^_, _<_, _≤_};
 ghost use lib.ListN.{length, getD};
 ghost use Rattle.columns.specs.Rows.{Column};
-ghost use Rattle.columns.specs.Tiles.{runOf};
+ghost use Rattle.columns.specs.Tiles.{tileOf};
 ghost use Rattle.tables.specs.Tables.{tabled};
 ghost use Rattle.halton_blocks.specs.Filling.{haltonFrom, Ready, Made};
 
@@ -11,7 +11,7 @@ ghost use Rattle.halton_blocks.specs.Filling.{haltonFrom, Ready, Made};
 fn run(base: u64, t: &[u64], r: usize, lo: usize, hi: usize, s: usize, j: usize, out: &mut [u64])
     requires { ⌜ (base < 2 ^ 40) × (lo ≤ hi) × (hi - lo + r ≤ length (now t)) × (j < s) × (hi * s ≤ length (now out)) ⌝ }
     requires { ⌜ ((x : ℕ) → x < hi - lo + r → getD (now t) x 0 < 2 ^ 40) ⌝ }
-    ensures { λ v. ⌜ Column (runOf _+_ base (now (t .entry)) lo r) lo hi s j (now (out .entry)) (now (out .exit)) ⌝ }
+    ensures { λ v. ⌜ Column (tileOf _+_ base (now (t .entry)) lo r) lo hi s j (now (out .entry)) (now (out .exit)) ⌝ }
 {
     let mut i = lo;
     while i < hi {

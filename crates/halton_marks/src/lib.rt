@@ -3,7 +3,7 @@
 ghost use mathlib.Core.Path.{_≡_};
 ghost use Prim.Native.Nat.{_+_, _-_, _^_, _<_, _≤_};
 ghost use lib.ListN.{length};
-ghost use Rattle.columns.specs.Tiles.{runOf};
+ghost use Rattle.columns.specs.Tiles.{tileOf};
 ghost use Rattle.tables.specs.Tables.{tabled};
 ghost use Rattle.halton_blocks.specs.Filling.{haltonFrom, Ready};
 ghost use Rattle.marks.specs.Marking.{Marked};
@@ -18,7 +18,7 @@ fn left(limit: u64, base: u64) -> u64
 // Tests the points `lo` to `hi`: `base` and the table's entries, from entry `r` on.
 fn run(base: u64, t: &[u64], r: usize, lo: usize, hi: usize, limit: u64, l: &mut [u8])
     requires { ⌜ (lo ≤ hi) × (hi - lo + r ≤ length (now t)) × (hi ≤ length (now l)) ⌝ }
-    ensures { λ v. ⌜ Marked (runOf _+_ base (now (t .entry)) lo r) limit lo hi (now (l .entry)) (now (l .exit)) ⌝ }
+    ensures { λ v. ⌜ Marked (tileOf _+_ base (now (t .entry)) lo r) limit lo hi (now (l .entry)) (now (l .exit)) ⌝ }
 {
     let bound = left(limit, base);
     let mut i = lo;

@@ -56,7 +56,7 @@ pub fn denominator(b: u64) -> u64
     ensures { λ r. ⌜ r ≡ denominator b ⌝ }
 {
     let mut d = 1;
-    while d < 4294967296 {
+    while d < INDEXES {
         d = d * b;
     }
     d

@@ -4,7 +4,7 @@ ghost use Prim.Native.Nat.{_+_, _-_, _^_, _<_, _≤_};
 ghost use lib.ListN.{length};
 ghost use lib.Bits.{bitXor};
 ghost use Rattle.sobol.specs.Stepping.{stepped};
-ghost use Rattle.columns.specs.Tiles.{Table, runOf};
+ghost use Rattle.columns.specs.Tiles.{Table, tileOf};
 ghost use Rattle.sobol_tables.specs.Tables.{Directions};
 ghost use Rattle.sobol_blocks.specs.Filling.{sobolFrom};
 ghost use Rattle.marks.specs.Marking.{Marked};
@@ -12,7 +12,7 @@ ghost use Rattle.marks.specs.Marking.{Marked};
 // Tests the points `lo` to `hi`: the table's entries, from entry `r` on, each xor `base`.
 fn run(base: u32, t: &[u32], r: usize, lo: usize, hi: usize, limit: u32, l: &mut [u8])
     requires { ⌜ (lo ≤ hi) × (hi - lo + r ≤ length (now t)) × (hi ≤ length (now l)) ⌝ }
-    ensures { λ v. ⌜ Marked (runOf bitXor base (now (t .entry)) lo r) limit lo hi (now (l .entry)) (now (l .exit)) ⌝ }
+    ensures { λ v. ⌜ Marked (tileOf bitXor base (now (t .entry)) lo r) limit lo hi (now (l .entry)) (now (l .exit)) ⌝ }
 {
     let mut i = lo;
     while i < hi {

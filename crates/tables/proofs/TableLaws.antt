@@ -15,7 +15,7 @@ use Rattle.halton.specs.Axis.{numerator}
 use Rattle.halton.specs.Images.{imageIn, DigitMap}
 use Rattle.halton.proofs.AxisLaws.{numerator-below}
 use Rattle.columns.specs.Rows.{Column}
-use Rattle.columns.specs.Tiles.{Tiled, Table, runOf}
+use Rattle.columns.specs.Tiles.{Tiled, Table, tileOf}
 use Rattle.columns.proofs.TileLaws.{tile-run}
 use Rattle.tables.specs.Tables.{tabled}
 use Rattle.tables.proofs.SplitLaws.{numerator-splits, numerator-digit, weight-next}
@@ -42,8 +42,8 @@ module _ {b : ℕ} {σ : ℕ → ℕ} (a : DigitMap b σ) (big : 2 ≤ b) where
         ∙ ap (λ (x : ℕ). x + numerator σ b r) (sym part-first)
 
     -- one part more
-    pub part-more : {t new : List ℕ} → Begins (numerator σ b) (d * size) t → 1 ≤ d → Column (runOf _+_ (σ d * w) t 0 0) 0 size 1 (d * size) t new → Begins (numerator σ b) ((d + 1) * size) new
-    unfolding runOf
+    pub part-more : {t new : List ℕ} → Begins (numerator σ b) (d * size) t → 1 ≤ d → Column (tileOf _+_ (σ d * w) t 0 0) 0 size 1 (d * size) t new → Begins (numerator σ b) ((d + 1) * size) new
+    unfolding tileOf
     part-more {t} {new} s one c = record {
       at = λ r h. ⊎-elim (λ q. c .kept r (λ i u v k. omega arith) ∙ s .at r q) (λ q. here r (r - d * size) (omega arith) (omega (arith, add-mul d 1 size))) (lt-or-ge r (d * size));
     }
@@ -101,6 +101,6 @@ entry-below a big c u x h = rw (c .starts .at x h) (point-below a big u x)
 
 pub tabled-run : {b size : ℕ} {t : List ℕ} (l : List ℕ) → DigitMap b (imageIn l) → 2 ≤ b → Table (numerator (imageIn l) b) b size t
     → (n : ℕ) {lo hi r end base : ℕ} → Tiled (n + lo) size lo hi r end → base ≡ numerator (imageIn l) b (n + lo - r)
-    → (k : ℕ) → lo ≤ k → k < end → runOf _+_ base t lo r k ≡ tabled l b n k
+    → (k : ℕ) → lo ≤ k → k < end → tileOf _+_ base t lo r k ≡ tabled l b n k
 unfolding tabled
 tabled-run {b} l a big c n = tile-run c (numerator-splits (imageIn l) b (a .zero-first) big) n

@@ -6,7 +6,7 @@ ghost use Rattle.numbers.specs.Depth.{denominator};
 ghost use Rattle.halton.specs.Axis.{numerator};
 ghost use Rattle.halton.specs.Images.{imageIn, DigitMap};
 ghost use Rattle.columns.specs.Rows.{Column};
-ghost use Rattle.columns.specs.Tiles.{Table, runOf};
+ghost use Rattle.columns.specs.Tiles.{Table, tileOf};
 
 // The table of the first `b` points: the image of each digit, times the weight `w` of the last place.
 fn first_points(b: u64, l: &[u8], w: u64, t: &mut [u64])
@@ -24,7 +24,7 @@ fn first_points(b: u64, l: &[u8], w: u64, t: &mut [u64])
 // Writes `size` entries at `at`: the first `size` ones, each with `a` added.
 fn spread(a: u64, at: usize, size: usize, t: &mut [u64])
     requires { ⌜ (a < 2 ^ 40) × (size ≤ at) × (at + size ≤ length (now t)) × ((r : ℕ) → r < size → getD (now t) r 0 < 2 ^ 40) ⌝ }
-    ensures { λ r. ⌜ Column (runOf _+_ a (now (t .entry)) 0 0) 0 size 1 at (now (t .entry)) (now (t .exit)) ⌝ }
+    ensures { λ r. ⌜ Column (tileOf _+_ a (now (t .entry)) 0 0) 0 size 1 at (now (t .entry)) (now (t .exit)) ⌝ }
 {
     let mut i = 0;
     while i < size {

@@ -16,11 +16,11 @@ unfoldable pub leading : (ℕ → Bool) → List ℕ → ℕ
 leading passes [] = 0
 leading passes (b ∷ bs) = cond (passes b) (suc (leading passes bs)) 0
 
--- the byte is a blank, or it is none
+-- the byte is a blank, or it is not, as asked
 unfoldable pub blankIs : Bool → ℕ → Bool
 blankIs blank b = Bool·beq (isBlank b) blank
 
--- where the blanks at a place end, or the bytes there that are none
+-- where the blanks at a place end, or the other bytes there, as asked
 abbrev pub spanEnd : List ℕ → ℕ → Bool → ℕ
 spanEnd line from blank = from + leading (blankIs blank) (drop from line)
 

@@ -3,13 +3,13 @@ use mathlib.Core.Path.{refl}
 use Prim.Native.Nat.{_+_, _-_, _*_, _≤_, _<_}
 use native.Mathlib.Omega.{arith}
 use Rattle.columns.specs.Rows.{Column}
-use Rattle.columns.specs.Tiles.{runOf}
+use Rattle.columns.specs.Tiles.{tileOf}
 use Rattle.columns.proofs.ColumnLaws.{column-none, column-to, column-more, row-end}
 use Rattle.halton_blocks.proofs.run.Statement.{statement}
 use Rattle.halton_blocks.proofs.run.Tie as tie
 
 abbrev Inv-loop : tie.InvT-loop
-Inv-loop base t r lo hi s j out₀ i₀ out i = (lo ≤ i) × (i ≤ hi) × Column (runOf _+_ base t lo r) lo i s j out₀ out
+Inv-loop base t r lo hi s j out₀ i₀ out i = (lo ≤ i) × (i ≤ hi) × Column (tileOf _+_ base t lo r) lo i s j out₀ out
 
 abbrev μ-loop : tie.MeasureT-loop
 μ-loop base t r lo hi s j out₀ i₀ out i = hi - i
@@ -55,7 +55,7 @@ loop-less : tie.Need-loop-less Inv-loop μ-loop
 loop-less c = omega arith
 
 loop-again : tie.Need-loop-again Inv-loop μ-loop
-unfolding runOf
+unfolding tileOf
 loop-again c = (omega arith, omega arith, column-more (c .before .before .loop .inv .2) _ (omega arith) (omega arith) (omega (arith, place c)) refl)
 
 same-length : tie.Need-same-length Inv-loop μ-loop

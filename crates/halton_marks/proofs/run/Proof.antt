@@ -4,7 +4,7 @@ use mathlib.Core.Bool.{Bool, cond}
 use Prim.Native.Nat.{_+_, _-_, _≤_}
 use native.Mathlib.Omega.{arith}
 use lib.ListN.{getD}
-use Rattle.columns.specs.Tiles.{runOf}
+use Rattle.columns.specs.Tiles.{tileOf}
 use Rattle.marks.specs.Marking.{Marked}
 use Rattle.marks.proofs.MarkLaws.{marked-none, marked-more, marked-to}
 use Rattle.halton_marks.proofs.LeftLaws.{left-test}
@@ -12,7 +12,7 @@ use Rattle.halton_marks.proofs.run.Statement.{statement}
 use Rattle.halton_marks.proofs.run.Tie as tie
 
 abbrev Inv-loop : tie.InvT-loop
-Inv-loop base t r lo hi limit l₀ bound i₀ l i = (lo ≤ i) × (i ≤ hi) × Marked (runOf _+_ base t lo r) limit lo i l₀ l
+Inv-loop base t r lo hi limit l₀ bound i₀ l i = (lo ≤ i) × (i ≤ hi) × Marked (tileOf _+_ base t lo r) limit lo i l₀ l
 
 abbrev μ-loop : tie.MeasureT-loop
 μ-loop base t r lo hi limit l₀ bound i₀ l i = hi - i
@@ -51,7 +51,7 @@ loop-less : tie.Need-loop-less Inv-loop μ-loop
 loop-less c = omega arith
 
 loop-again : tie.Need-loop-again Inv-loop μ-loop
-unfolding runOf
+unfolding tileOf
 loop-again c =
     let a = c .before .before .before .before .before .before .before .before .args in
     let l = c .before .before .before .before .loop in (

@@ -3,14 +3,14 @@ use Prim.Native.Nat.{_+_, _-_, _≤_}
 use native.Mathlib.Omega.{arith}
 use lib.Bits.{bitXor, xor-lt}
 use lib.ListN.{getD}
-use Rattle.columns.specs.Tiles.{runOf}
+use Rattle.columns.specs.Tiles.{tileOf}
 use Rattle.marks.specs.Marking.{Marked}
 use Rattle.marks.proofs.MarkLaws.{marked-none, marked-more, marked-to}
 use Rattle.sobol_marks.proofs.run.Statement.{statement}
 use Rattle.sobol_marks.proofs.run.Tie as tie
 
 abbrev Inv-loop : tie.InvT-loop
-Inv-loop base t r lo hi limit l₀ i₀ l i = (lo ≤ i) × (i ≤ hi) × Marked (runOf bitXor base t lo r) limit lo i l₀ l
+Inv-loop base t r lo hi limit l₀ i₀ l i = (lo ≤ i) × (i ≤ hi) × Marked (tileOf bitXor base t lo r) limit lo i l₀ l
 
 abbrev μ-loop : tie.MeasureT-loop
 μ-loop base t r lo hi limit l₀ i₀ l i = hi - i
@@ -52,7 +52,7 @@ loop-less : tie.Need-loop-less Inv-loop μ-loop
 loop-less c = omega arith
 
 loop-again : tie.Need-loop-again Inv-loop μ-loop
-unfolding runOf
+unfolding tileOf
 loop-again c =
     let l = c .before .before .before .before .loop in
     (omega arith, omega arith, marked-more (l .inv .2) (c .keep .result) (omega arith) (omega arith) (c .keep .ensures))

@@ -6,13 +6,13 @@ use denote.Ref.{now}
 use lib.ListN.{getD}
 use native.Mathlib.Nat.{mul-one}
 use Rattle.columns.specs.Rows.{Column}
-use Rattle.columns.specs.Tiles.{runOf}
+use Rattle.columns.specs.Tiles.{tileOf}
 use Rattle.columns.proofs.ColumnLaws.{column-none, column-to, column-more}
 use Rattle.tables.proofs.spread.Statement.{statement}
 use Rattle.tables.proofs.spread.Tie as tie
 
 abbrev Inv-loop : tie.InvT-loop
-Inv-loop a at size t₀ i₀ t i = (i ≤ size) × Column (runOf _+_ a t₀ 0 0) 0 i 1 at t₀ t
+Inv-loop a at size t₀ i₀ t i = (i ≤ size) × Column (tileOf _+_ a t₀ 0 0) 0 i 1 at t₀ t
 
 abbrev μ-loop : tie.MeasureT-loop
 μ-loop a at size t₀ i₀ t i = size - i
@@ -48,7 +48,7 @@ loop-less : tie.Need-loop-less Inv-loop μ-loop
 loop-less c = omega arith
 
 loop-again : tie.Need-loop-again Inv-loop μ-loop
-unfolding runOf
+unfolding tileOf
 loop-again c =
     let a = c .before .before .before .args in
     let l = c .before .before .loop in
