@@ -178,13 +178,13 @@ fn is_point(family: u64, axes: usize, bases: &[u64], directions: &[u64], x: &[u6
     requires { ⌜ Arrays family axes (now bases) (now directions) × (length (now x) ≡ 6) × (n < 2 ^ 32) ⌝ }
     ensures { λ r. ⌜ (r ≡ true) ↔ FitPoint family axes (now (bases .entry)) (now (directions .entry)) (now (x .entry)) n ⌝ }
 {
-    let mut i = 0;
-    while i < axes {
-        let y = points::numerator(family, bases, directions, n, i);
-        if x[i] != y {
+    let mut axis = 0;
+    while axis < axes {
+        let y = points::numerator(family, bases, directions, n, axis);
+        if x[axis] != y {
             return false;
         }
-        i += 1;
+        axis += 1;
     }
     is_zero(x, axes)
 }

@@ -26,7 +26,9 @@ returns-2 : tie.Need-returns-2
 returns-2 c = failed (c .before .are-given .ensures) (not-true _ (c .if2 .taken)) (λ f. rw (c .before .before .degree .ensures) (f .given))
 
 are-ruled-requires : tie.Need-are-ruled-requires
-are-ruled-requires c κs = (c .before .before .before .before .before .before .pre, omega (arith, c .before .before .degree .ensures, degree-low _ (good (c .before .before .before) .high)))
+are-ruled-requires c κs =
+    let d = c .before .before in
+    (d .before .before .before .before .pre, omega (arith, d .degree .ensures, degree-low _ (good (d .before) .high)))
 
 returns-3 : tie.Need-returns-3
 returns-3 c =

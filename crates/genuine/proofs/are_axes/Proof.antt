@@ -21,7 +21,9 @@ is-new-requires : tie.Need-is-new-requires Inv-loop μ-loop
 is-new-requires c κs = omega arith
 
 returns : tie.Need-returns Inv-loop μ-loop
-returns c = let i = c .before .before .before .loop .i in failed (c .before .is-new .ensures) (not-true _ (c .if1 .taken)) (λ f. record { each = λ j h. f .distinct i j h (omega arith) })
+returns c =
+    let i = c .before .before .before .loop .i in
+    failed (c .before .is-new .ensures) (not-true _ (c .if1 .taken)) (λ f. record { each = λ j h. f .distinct i j h (omega arith) })
 
 mul-p : tie.Need-mul-p Inv-loop μ-loop
 mul-p c = omega arith
@@ -48,12 +50,15 @@ part-is-axis-end : tie.Need-part-is-axis-end Inv-loop μ-loop
 part-is-axis-end c = omega arith
 
 is-axis-requires : tie.Need-is-axis-requires Inv-loop μ-loop
-is-axis-requires c κs = part-long (c .before .before .before .before .before .before .before .before .args .directions .now) (c .before .before .before .before .before .loop .i) (omega arith) (omega arith)
+is-axis-requires c κs =
+    let l = c .before .before .before .before .before in
+    part-long (l .before .before .before .args .directions .now) (l .loop .i) (omega arith) (omega arith)
 
 returns-2 : tie.Need-returns-2 Inv-loop μ-loop
 returns-2 c =
-    let i = c .before .before .before .before .before .before .before .loop .i in
-    failed (c .before .is-axis .ensures) (not-true _ (c .if2 .taken)) (λ f. rw (part-is (c .before .before .before .before .before .before .before .before .before .before .args .directions .now) i) (f .axis i (omega arith)))
+    let l = c .before .before .before .before .before .before .before in
+    failed (c .before .is-axis .ensures) (not-true _ (c .if2 .taken))
+    (λ f. rw (part-is (l .before .before .before .args .directions .now) (l .loop .i)) (f .axis (l .loop .i) (omega arith)))
 
 add-i : tie.Need-add-i Inv-loop μ-loop
 add-i c = omega arith
@@ -63,10 +68,10 @@ loop-less c = omega arith
 
 loop-again : tie.Need-loop-again Inv-loop μ-loop
 loop-again c =
-    let l = c .before .before .before .before .before .before .before .loop in
+    let l = c .before .before .before .before .before .before .before in
     let new = c .before .before .before .before .before .is-new .ensures .0 (not-false _ (c .before .before .before .before .if1 .left)) in
     let one = c .before .is-axis .ensures .0 (not-false _ (c .if2 .left)) in
-    (omega arith, axis-more (l .inv .1) new (rw (part-is (c .before .before .before .before .before .before .before .before .before .before .args .directions .now) (l .i)) at one))
+    (omega arith, axis-more (l .loop .inv .1) new (rw (part-is (l .before .before .before .args .directions .now) (l .loop .i)) at one))
 
 returns-3 : tie.Need-returns-3 Inv-loop μ-loop
 returns-3 c =

@@ -45,7 +45,8 @@ loop-less c = omega arith
 
 loop-again : tie.Need-loop-again Inv-loop μ-loop
 loop-again c =
-    (omega arith, base-more (c .before .before .before .before .before .before .loop .inv .1) (omega arith) (omega arith) (c .before .is-coprime .ensures .0 (not-false _ (c .if3 .left))))
+    let l = c .before .before .before .before .before .before .loop in
+    (omega arith, base-more (l .inv .1) (omega arith) (omega arith) (c .before .is-coprime .ensures .0 (not-false _ (c .if3 .left))))
 
 returns-4 : tie.Need-returns-4 Inv-loop μ-loop
 returns-4 c =

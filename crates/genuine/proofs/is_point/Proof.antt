@@ -7,10 +7,10 @@ use Rattle.genuine.proofs.is_point.Statement.{statement}
 use Rattle.genuine.proofs.is_point.Tie as tie
 
 abbrev Inv-loop : tie.InvT-loop
-Inv-loop family axes bases directions x n i₀ i = (i ≤ axes) × PointTo family bases directions x n i
+Inv-loop family axes bases directions x n axis₀ axis = (axis ≤ axes) × PointTo family bases directions x n axis
 
 abbrev μ-loop : tie.MeasureT-loop
-μ-loop family axes bases directions x n i₀ i = axes - i
+μ-loop family axes bases directions x n axis₀ axis = axes - axis
 
 loop-holds : tie.Need-loop-holds Inv-loop μ-loop
 loop-holds c = (omega arith, point-none _ _ _ _ _)
@@ -25,10 +25,10 @@ shared-slice-read-if1 : tie.Need-shared-slice-read-if1 Inv-loop μ-loop
 shared-slice-read-if1 c = omega arith
 
 returns : tie.Need-returns Inv-loop μ-loop
-returns c = let i = c .before .before .before .before .loop .i in no (λ f. omega (arith, f .word i (omega arith), c .before .before .numerator .ensures))
+returns c = let i = c .before .before .before .before .loop .axis in no (λ f. omega (arith, f .word i (omega arith), c .before .before .numerator .ensures))
 
-add-i : tie.Need-add-i Inv-loop μ-loop
-add-i c = omega arith
+add-axis : tie.Need-add-axis Inv-loop μ-loop
+add-axis c = omega arith
 
 loop-less : tie.Need-loop-less Inv-loop μ-loop
 loop-less c = omega arith
@@ -55,7 +55,7 @@ is-point-spec =
     mul-if1
     shared-slice-read-if1
     returns
-    add-i
+    add-axis
     loop-less
     loop-again
     is-zero-requires
