@@ -1,54 +1,166 @@
-// The test that a state is genuine: that accepted calls leave it. Its plan is spelled and read again, and the state made anew.
+// The test that a state is genuine, over its arrays in place: axis by axis, with no second state and no bytes.
 use state::Sampler;
-use writer::PlanWritten;
 ghost use mathlib.Core.Path.{_≡_};
 ghost use mathlib.Core.Bool.{true};
-ghost use Rattle.writer.specs.Parts.{Written};
+ghost use mathlib.Core.Logic.{_↔_};
+ghost use Prim.Native.Nat.{_+_, _^_, _<_, _≤_};
+ghost use lib.ListN.{length};
+ghost use Rattle.fitting.specs.Fits.{ZeroFrom, CoprimeTo, FitBases, FitHalton, NewTo, FitAxes, FitSobol, FitPlan, FitPoint, FitNext};
+ghost use Rattle.points.specs.Arrays.{Arrays};
 ghost use Rattle.points.specs.Run.{runOf};
-ghost use Rattle.state.specs.State.{planIn, permitted, genuine};
+ghost use Rattle.state.specs.State.{permitted, genuine};
 
-// Whether some accepted reading, with any accepted openings, steps and blocks after it, leaves the state: its plan is spelled and read again,
-// and the state made anew.
-pub fn is_genuine(s: Sampler) -> bool
-    ensures { λ r. ⌜ r ≡ genuine s ⌝ }
+// Whether the words from place `from` on are 0.
+fn is_zero(words: &[u64], from: usize) -> bool
+    ensures { λ r. ⌜ (r ≡ true) ↔ ZeroFrom from (now (words .entry)) ⌝ }
 {
-    let bases = s.bases;
-    let polynomials = s.polynomials;
-    if !spellable::is_spellable(s.family, s.axes, &bases, &polynomials) {
-        return false;
+    let mut x: u64 = 0;
+    let mut i = from;
+    while i < words.len() {
+        x = x | words[i];
+        i += 1;
     }
-    let directions = s.directions;
-    let ms = spellable::ms_of(&directions);
-    let mut bytes = [0u8; 71];
-    let w = writer::write_plan(&mut bytes, s.family, s.axes, &bases, &polynomials, &ms);
-    if w.code != 0 {
-        return false;
-    }
-    let len = w.len;
-    let a = reader::read_plan(&bytes[..len]);
-    if a.code != 0 {
-        return false;
-    }
-    if !is_permitted(s.start, s.count, s.taken) {
-        return false;
-    }
-    let t = state::make(a, s.start, s.count, s.taken);
-    if !comparison::same_plan(s, t) {
-        return false;
-    }
-    comparison::same_run(s, t)
+    x == 0
 }
 
-// Writes the plan of a genuine state to the front of `out`.
-pub fn write_plan(s: Sampler, out: &mut [u8]) -> PlanWritten
-    requires { ⌜ genuine s ≡ true ⌝ }
-    ensures { λ r. ⌜ Written (planIn s) (now (out .entry)) (now (out .exit)) (r .code) (r .len) ⌝ }
+// ---- Halton plans
+
+// Whether `b` is coprime to the first `n` bases.
+fn is_coprime(b: u64, bases: &[u64], n: usize) -> bool
+    requires { ⌜ n ≤ length (now bases) ⌝ }
+    ensures { λ r. ⌜ (r ≡ true) ↔ CoprimeTo b (now (bases .entry)) n ⌝ }
 {
-    let bases = s.bases;
-    let polynomials = s.polynomials;
-    let directions = s.directions;
-    let ms = spellable::ms_of(&directions);
-    writer::write_plan(out, s.family, s.axes, &bases, &polynomials, &ms)
+    let mut j = 0;
+    while j < n {
+        if numbers::gcd(b, bases[j]) != 1 {
+            return false;
+        }
+        j += 1;
+    }
+    true
+}
+
+// Whether the first `n` bases are from 2 to 256 and coprime.
+fn are_bases(bases: &[u64], n: usize) -> bool
+    requires { ⌜ n ≤ length (now bases) ⌝ }
+    ensures { λ r. ⌜ (r ≡ true) ↔ FitBases (now (bases .entry)) n ⌝ }
+{
+    let mut i = 0;
+    while i < n {
+        let b = bases[i];
+        if b < 2 {
+            return false;
+        }
+        if 256 < b {
+            return false;
+        }
+        if !is_coprime(b, bases, i) {
+            return false;
+        }
+        i += 1;
+    }
+    true
+}
+
+// Whether the arrays are those of a Halton plan.
+fn is_halton<'a>(
+    family: u64,
+    axes: usize,
+    bases: &'a [u64],
+    polynomials: &'a [u64],
+    directions: &'a [u64],
+) -> bool
+    requires { ⌜ axes ≤ length (now bases) ⌝ }
+    ensures { λ r. ⌜ (r ≡ true) ↔ FitHalton family axes (now (bases .entry)) (now (polynomials .entry)) (now (directions .entry)) ⌝ }
+{
+    if 1 < family {
+        return false;
+    }
+    if !are_bases(bases, axes) {
+        return false;
+    }
+    if !is_zero(bases, axes) {
+        return false;
+    }
+    if !is_zero(polynomials, 0) {
+        return false;
+    }
+    is_zero(directions, 0)
+}
+
+// ---- Sobol plans
+
+// Whether the polynomial at place `n` stands at none before it.
+fn is_new(polynomials: &[u64], n: usize) -> bool
+    requires { ⌜ n < length (now polynomials) ⌝ }
+    ensures { λ r. ⌜ (r ≡ true) ↔ NewTo (now (polynomials .entry)) n n ⌝ }
+{
+    let p = polynomials[n];
+    let mut j = 0;
+    while j < n {
+        if p == polynomials[j] {
+            return false;
+        }
+        j += 1;
+    }
+    true
+}
+
+// Whether the first `n` axes are of different polynomials, each with its direction numbers.
+fn are_axes(polynomials: &[u64], directions: &[u64], n: usize) -> bool
+    requires { ⌜ (n ≤ 6) × (n ≤ length (now polynomials)) × (length (now directions) ≡ 192) ⌝ }
+    ensures { λ r. ⌜ (r ≡ true) ↔ FitAxes (now (polynomials .entry)) (now (directions .entry)) n ⌝ }
+{
+    let mut i = 0;
+    while i < n {
+        if !is_new(polynomials, i) {
+            return false;
+        }
+        let p = polynomials[i];
+        let from = 32 * i;
+        let to = from + 32;
+        if !axis_test::is_axis(p, &directions[from..to]) {
+            return false;
+        }
+        i += 1;
+    }
+    true
+}
+
+// Whether the arrays are those of a Sobol plan.
+fn is_sobol(axes: usize, bases: &[u64], polynomials: &[u64], directions: &[u64]) -> bool
+    requires { ⌜ (axes ≤ 6) × (length (now polynomials) ≡ 6) × (length (now directions) ≡ 192) ⌝ }
+    ensures { λ r. ⌜ (r ≡ true) ↔ FitSobol axes (now (bases .entry)) (now (polynomials .entry)) (now (directions .entry)) ⌝ }
+{
+    if !is_zero(bases, 0) {
+        return false;
+    }
+    if !is_zero(polynomials, axes) {
+        return false;
+    }
+    if !is_zero(directions, 32 * axes) {
+        return false;
+    }
+    are_axes(polynomials, directions, axes)
+}
+
+// ---- the whole
+
+// Whether the arrays are those of a plan.
+fn is_plan<'a>(
+    family: u64,
+    axes: usize,
+    bases: &'a [u64],
+    polynomials: &'a [u64],
+    directions: &'a [u64],
+) -> bool
+    requires { ⌜ (axes ≤ 6) × (length (now bases) ≡ 6) × (length (now polynomials) ≡ 6) × (length (now directions) ≡ 192) ⌝ }
+    ensures { λ r. ⌜ (r ≡ true) ↔ FitPlan family axes (now (bases .entry)) (now (polynomials .entry)) (now (directions .entry)) ⌝ }
+{
+    if family == 2 {
+        return is_sobol(axes, bases, polynomials, directions);
+    }
+    is_halton(family, axes, bases, polynomials, directions)
 }
 
 // Whether the run is permitted, and no more points are taken than it has.
@@ -59,4 +171,72 @@ fn is_permitted(start: u64, count: u64, taken: u64) -> bool
         return false;
     }
     taken <= count
+}
+
+// Whether the words of `x` are the point of index `n`.
+fn is_point(family: u64, axes: usize, bases: &[u64], directions: &[u64], x: &[u64], n: u64) -> bool
+    requires { ⌜ Arrays family axes (now bases) (now directions) × (length (now x) ≡ 6) × (n < 2 ^ 32) ⌝ }
+    ensures { λ r. ⌜ (r ≡ true) ↔ FitPoint family axes (now (bases .entry)) (now (directions .entry)) (now (x .entry)) n ⌝ }
+{
+    let mut axis = 0;
+    while axis < axes {
+        let y = points::numerator(family, bases, directions, n, axis);
+        if x[axis] != y {
+            return false;
+        }
+        axis += 1;
+    }
+    is_zero(x, axes)
+}
+
+// Whether the words of `x` are the run's next point, and 0 where none is left.
+fn is_next<'a>(
+    family: u64,
+    axes: usize,
+    bases: &'a [u64],
+    directions: &'a [u64],
+    x: &'a [u64],
+    start: u64,
+    count: u64,
+    taken: u64,
+) -> bool
+    requires { ⌜ Arrays family axes (now bases) (now directions) × (length (now x) ≡ 6) × (start + count ≤ 2 ^ 32) ⌝ }
+    ensures { λ r. ⌜ (r ≡ true) ↔ FitNext family axes (now (bases .entry)) (now (directions .entry)) (now (x .entry)) (runOf start count) taken ⌝ }
+{
+    if taken < count {
+        return is_point(family, axes, bases, directions, x, start + taken);
+    }
+    is_zero(x, 0)
+}
+
+// Whether some accepted reading, with any accepted openings, steps and blocks after it, leaves the state.
+pub fn is_genuine(s: Sampler) -> bool
+    ensures { λ r. ⌜ r ≡ genuine s ⌝ }
+{
+    if !is_permitted(s.start, s.count, s.taken) {
+        return false;
+    }
+    if s.axes < 1 {
+        return false;
+    }
+    if 6 < s.axes {
+        return false;
+    }
+    let bases = s.bases;
+    let polynomials = s.polynomials;
+    let directions = s.directions;
+    if !is_plan(s.family, s.axes, &bases, &polynomials, &directions) {
+        return false;
+    }
+    let numerators = s.numerators;
+    is_next(
+        s.family,
+        s.axes,
+        &bases,
+        &directions,
+        &numerators,
+        s.start,
+        s.count,
+        s.taken,
+    )
 }

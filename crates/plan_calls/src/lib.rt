@@ -4,7 +4,11 @@ use plan::refusal;
 use state::Sampler;
 use writer::PlanWritten;
 ghost use mathlib.Core.Path.{_≡_};
+ghost use mathlib.Core.Bool.{true};
+ghost use lib.ListN.{length};
+ghost use Rattle.writer.specs.Parts.{Written};
 ghost use Rattle.points.specs.Run.{runOf};
+ghost use Rattle.state.specs.State.{msIn, planIn, genuine};
 ghost use Rattle.calls.specs.Calls.{readSpec, writeSpec, writeBuf, openSpec};
 
 // Reads a plan: the state with start 0 and count 0, or the blank state.
@@ -23,6 +27,33 @@ pub fn read(bytes: &[u8]) -> Moved
     Moved { code: 0, state: s }
 }
 
+// The given m's of each axis, by its direction numbers.
+fn ms_of(directions: &[u64]) -> [u64; 72]
+    requires { ⌜ length (now directions) ≡ 192 ⌝ }
+    ensures { λ r. ⌜ r ≡ msIn (now (directions .entry)) ⌝ }
+{
+    let mut ms = [0u64; 72];
+    let mut k = 0;
+    while k < 72 {
+        let m = directions[32 * (k / 12) + k % 12] >> (31 - k % 12);
+        ms[k] = m;
+        k += 1;
+    }
+    ms
+}
+
+// Writes the plan of a genuine state to the front of `out`.
+fn write_plan(s: Sampler, out: &mut [u8]) -> PlanWritten
+    requires { ⌜ genuine s ≡ true ⌝ }
+    ensures { λ r. ⌜ Written (planIn s) (now (out .entry)) (now (out .exit)) (r .code) (r .len) ⌝ }
+{
+    let bases = s.bases;
+    let polynomials = s.polynomials;
+    let directions = s.directions;
+    let ms = ms_of(&directions);
+    writer::write_plan(out, s.family, s.axes, &bases, &polynomials, &ms)
+}
+
 // Writes the plan's bytes to the front of `out` and reports their number.
 pub fn write(s: Sampler, out: &mut [u8]) -> PlanWritten
     ensures { λ r. ⌜ (r ≡ writeSpec s (now (out .entry))) × (now (out .exit) ≡ writeBuf s (now (out .entry))) ⌝ }
@@ -33,7 +64,7 @@ pub fn write(s: Sampler, out: &mut [u8]) -> PlanWritten
             len: 0,
         };
     }
-    genuine::write_plan(s, out)
+    write_plan(s, out)
 }
 
 // Opens a run, which replaces the old one.

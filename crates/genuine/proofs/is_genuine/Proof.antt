@@ -1,165 +1,113 @@
--- The plan that the state holds is spelled and read again, and the state made of what was read is compared with it. Assumes nothing.
-use mathlib.Core.Path.{_≡_, refl, sym, ap, _∙_}
+-- The first part that fails decides; the last decides where the others hold. Assumes nothing.
+use mathlib.Core.Path.{_≡_, sym, _∙_}
 use mathlib.Core.Bool.{true, true≢false}
-use mathlib.Core.List.{List}
-use Prim.Native.Nat.{ℕ}
 use native.Mathlib.Omega.{arith}
 use borrow.Author.Needs.{needs}
 use borrow.Author.Tests.{not-true, not-false}
-use lib.ListN.{length}
-use lib.Seq.{length-take-le}
-use Rattle.plan.specs.Plan.{spell}
-use Rattle.plan.specs.Reading.{readPlan}
-use Rattle.plan.specs.Answer.{answerOf}
-use Rattle.state.specs.State.{msIn, planIn, runIn, permitted}
-use Rattle.state.specs.declared.Sampler.{Sampler}
+use Rattle.points.proofs.RunLaws.{range-is}
+use Rattle.state.specs.State.{runIn, permitted}
 use Rattle.state.proofs.GenuineLaws.{permitted-is}
-use Rattle.writer.specs.Parts.{Written}
-use Rattle.spellable.proofs.SpellableLaws.{ms-long}
-use Rattle.genuine.proofs.TestLaws.{not-spellable, Front, written-front, too-long, reading-refused, reading-accepted, not-permitted, other-plan, same-or-other-run}
+use Rattle.fitting.specs.Fits.{FitPlan, Sized}
+use Rattle.fitting.proofs.AnswerLaws.{no, failed, rests}
+use Rattle.fitting.proofs.FitLaws.{fit-arrays, decided}
 use Rattle.genuine.proofs.is_genuine.Statement.{statement}
 use Rattle.genuine.proofs.is_genuine.Tie as tie
 
-slice-aggregate-is-spellable : tie.Need-slice-aggregate-is-spellable
-slice-aggregate-is-spellable c = search needs
+run : (c : tie.Else1) → let s = c .before .before .args .s in permitted (runIn s) (s .taken) ≡ true
+run c = sym (c .before .is-permitted .ensures) ∙ not-false _ (c .if1 .left)
 
-slice-aggregate-is-spellable-2 : tie.Need-slice-aggregate-is-spellable-2
-slice-aggregate-is-spellable-2 c = search needs
+sized : (c : tie.Start) → Sized (c .args .s)
+sized c = record { bases = search needs; polynomials = search needs; directions = search needs; numerators = search needs }
 
-is-spellable-requires : tie.Need-is-spellable-requires
-is-spellable-requires c κs =
-    let s = c .before .before .before .before .args .s in
-    let bases : length (s .bases) ≡ 6 = search needs in
-    let polynomials : length (s .polynomials) ≡ 6 = search needs in
-    (omega arith, omega arith)
+-- where the number of axes is right, and where the plan is
+abbrev few : tie.Else4 → tie.Else3
+few c = c .before .before .before .before .before .before .before .before
 
-returns : tie.Need-returns
-returns c =
-    let s = c .before .before .before .before .before .before .args .s in
-    let r = c .before .is-spellable in
-    not-spellable s (λ w. true≢false (sym (r .ensures (msIn (s .directions)) (ms-long (s .directions)) .1 w) ∙ not-true (r .result) (c .if1 .taken)))
+abbrev start : tie.Else3 → tie.Start
+start c = c .before .before .before .before .before .before
 
-slice-aggregate-ms-of : tie.Need-slice-aggregate-ms-of
-slice-aggregate-ms-of c = search needs
-
-ms-of-requires : tie.Need-ms-of-requires
-ms-of-requires c κs = search needs
-
-slice-aggregate-write-plan : tie.Need-slice-aggregate-write-plan
-slice-aggregate-write-plan c = search needs
-
-slice-aggregate-write-plan-2 : tie.Need-slice-aggregate-write-plan-2
-slice-aggregate-write-plan-2 c = search needs
-
-slice-aggregate-write-plan-3 : tie.Need-slice-aggregate-write-plan-3
-slice-aggregate-write-plan-3 c = search needs
-
-slice-aggregate-write-plan-4 : tie.Need-slice-aggregate-write-plan-4
-slice-aggregate-write-plan-4 c = search needs
-
-write-plan-requires : tie.Need-write-plan-requires
-write-plan-requires c κs =
-    let s = c .before .before .before .before .before .before .before .before .before .before .before .before .before .args .s in
-    let r = c .before .before .before .before .before .before .before .before .is-spellable in
-    rw (c .before .before .before .before .ms-of .ensures)
-    (r .ensures (msIn (s .directions)) (ms-long (s .directions)) .0 (not-false (r .result) (c .before .before .before .before .before .before .before .if1 .left)))
-
--- the bytes are the spelling, or there is no room
-written : (c : tie.After-write-plan) → let w = c .write-plan in
-    (old : List ℕ) × Written (planIn (c .before .before .before .before .before .before .before .before .before .before .before .before .before .before .args .s)) old (w .last .0) (w .result .code) (w .result .len) × (length old ≡ 71)
-unfolding planIn
-written c = (_, rw (c .before .before .before .before .before .ms-of .ensures) at (c .write-plan .ensures), refl)
-
-front : (c : tie.Else2) → let w = c .before .before .before .write-plan in Front (planIn (c .before .before .before .before .before .before .before .before .before .before .before .before .before .before .before .before .before .args .s)) (w .last .0) (w .result .len)
-front c = written-front _ (written (c .before .before .before) .1) (omega arith)
-
-abbrev given : tie.After-read-plan → Sampler
-given c = c .before .before .before .before .before .before .before .before .before .before .before .before .before .before .before .before .before .before .before .args .s
-
-read : (c : tie.After-read-plan) → c .read-plan .result ≡ answerOf (readPlan (spell (planIn (given c))))
-read c = c .read-plan .ensures ∙ ap (λ (l : List ℕ). answerOf (readPlan l)) (front (c .before .before) .is)
-
-returns-2 : tie.Need-returns-2
-returns-2 c =
-    let w = written (c .before .before .before) in too-long (c .before .before .before .before .before .before .before .before .before .before .before .before .before .before .before .before .before .args .s) (w .1) (w .2) (λ e. omega arith)
-
-array-share-prefix-bytes : tie.Need-array-share-prefix-bytes
-array-share-prefix-bytes c = front c .within
-
-slice-aggregate-read-plan : tie.Need-slice-aggregate-read-plan
-slice-aggregate-read-plan c = sym (length-take-le _ _ (front (c .before) .within))
-
-read-plan-requires : tie.Need-read-plan-requires
-read-plan-requires c κs = search needs
-
-returns-3 : tie.Need-returns-3
-returns-3 c = let r = c .before .before in reading-refused (given r) (r .read-plan .result) (read r) (λ e. omega arith)
+held : (c : tie.Else4) → let s = start (few c) .args .s in FitPlan (s .family) (s .axes) (s .bases) (s .polynomials) (s .directions)
+held c = c .before .is-plan .ensures .0 (not-false _ (c .if4 .left))
 
 is-permitted-requires : tie.Need-is-permitted-requires
 is-permitted-requires c κs = search needs
 
+returns : tie.Need-returns
+returns c =
+    decided (c .before .before .args .s) _
+    (no (λ f. true≢false (sym (f .run) ∙ sym (c .before .is-permitted .ensures) ∙ not-true _ (c .if1 .taken))))
+
+returns-2 : tie.Need-returns-2
+returns-2 c = decided (c .before .before .before .before .args .s) _ (no (λ f. omega (arith, f .few)))
+
+returns-3 : tie.Need-returns-3
+returns-3 c = decided (c .before .before .before .before .before .before .args .s) _ (no (λ f. omega (arith, f .few)))
+
+slice-aggregate-is-plan : tie.Need-slice-aggregate-is-plan
+slice-aggregate-is-plan c = search needs
+
+slice-aggregate-is-plan-2 : tie.Need-slice-aggregate-is-plan-2
+slice-aggregate-is-plan-2 c = search needs
+
+slice-aggregate-is-plan-3 : tie.Need-slice-aggregate-is-plan-3
+slice-aggregate-is-plan-3 c = search needs
+
+is-plan-requires : tie.Need-is-plan-requires
+is-plan-requires c κs =
+    let k = sized (start (c .before .before .before .before .before .before)) in
+    (omega arith, k .bases, k .polynomials, k .directions)
+
 returns-4 : tie.Need-returns-4
 returns-4 c =
-    let r = c .before .before .before .before in
-    let p = c .before .is-permitted in
-    not-permitted (given r) (r .read-plan .result) (read r) (omega arith) (sym (p .ensures) ∙ not-true (p .result) (c .if4 .taken))
+    let p = c .before in
+    decided (start (p .before .before .before .before .before .before .before) .args .s) _
+    (failed (p .is-plan .ensures) (not-true _ (c .if4 .taken)) (λ f. f .plan))
 
-run : (c : tie.Else4) → let s = given (c .before .before .before .before) in permitted (runIn s) (s .taken) ≡ true
-run c = let p = c .before .is-permitted in sym (p .ensures) ∙ not-false (p .result) (c .if4 .left)
+slice-aggregate-is-next : tie.Need-slice-aggregate-is-next
+slice-aggregate-is-next c = search needs
 
-make-requires : tie.Need-make-requires
-make-requires c κs =
-    let r = c .before .before .before .before in
-    let s = given r in
-    (reading-accepted s (r .read-plan .result) (read r) (omega arith), permitted-is (runIn s) (s .taken) (run c) .in-range)
+slice-aggregate-is-next-2 : tie.Need-slice-aggregate-is-next-2
+slice-aggregate-is-next-2 c = search needs
 
-same-plan-requires : tie.Need-same-plan-requires
-same-plan-requires c κs = search needs
+slice-aggregate-is-next-3 : tie.Need-slice-aggregate-is-next-3
+slice-aggregate-is-next-3 c = sym (sized (start (few (c .before .before .before .before))) .numerators)
+
+is-next-requires : tie.Need-is-next-requires
+is-next-requires c κs =
+    let h = c .before .before .before .before in
+    let k = sized (start (few h)) in
+    let r = permitted-is _ _ (run (few h .before .before .before .before)) in
+    (fit-arrays _ _ _ _ _ (omega arith, omega arith) (k .bases) (k .polynomials) (k .directions) (held h), k .numerators, range-is _ (r .in-range))
 
 returns-5 : tie.Need-returns-5
 returns-5 c =
-    let r = c .before .before .before .before .before .before .before in
-    let m = c .before .before in
-    let p = c .before .same-plan in
-    other-plan (given r) (r .read-plan .result) (read r) (omega arith) (m .make .result) (m .make .ensures) (run (m .before))
-    (sym (p .ensures) ∙ not-true (p .result) (c .if5 .taken))
-
-same-run-requires : tie.Need-same-run-requires
-same-run-requires c κs = search needs
-
-returns-6 : tie.Need-returns-6
-returns-6 c =
-    let r = c .before .before .before .before .before .before .before .before in
-    let m = c .before .before .before in
-    let p = c .before .before .same-plan in
-    c .same-run .ensures
-    ∙ same-or-other-run (given r) (r .read-plan .result) (read r) (omega arith) (m .make .result) (m .make .ensures) (run (m .before))
-    (sym (p .ensures) ∙ not-false (p .result) (c .before .if5 .left))
+    let h = c .before .before .before .before .before in
+    decided (start (few h) .args .s) _
+    (rests (c .is-next .ensures)
+    (λ z. record {
+      sized = sized (start (few h));
+      run = run (few h .before .before .before .before);
+      few = (omega arith, omega arith);
+      plan = held h;
+      next = z;
+    })
+    (λ f. f .next))
 
 pub is-genuine-spec : {M : Type 1} → statement M
 is-genuine-spec =
     tie.close
     (tie.spec
-    slice-aggregate-is-spellable
-    slice-aggregate-is-spellable-2
-    is-spellable-requires
-    returns
-    slice-aggregate-ms-of
-    ms-of-requires
-    slice-aggregate-write-plan
-    slice-aggregate-write-plan-2
-    slice-aggregate-write-plan-3
-    slice-aggregate-write-plan-4
-    write-plan-requires
-    returns-2
-    array-share-prefix-bytes
-    slice-aggregate-read-plan
-    read-plan-requires
-    returns-3
     is-permitted-requires
+    returns
+    returns-2
+    returns-3
+    slice-aggregate-is-plan
+    slice-aggregate-is-plan-2
+    slice-aggregate-is-plan-3
+    is-plan-requires
     returns-4
-    make-requires
-    same-plan-requires
-    returns-5
-    same-run-requires
-    returns-6)
+    slice-aggregate-is-next
+    slice-aggregate-is-next-2
+    slice-aggregate-is-next-3
+    is-next-requires
+    returns-5)

@@ -1,2 +1,0 @@
--- Laws of lists of words that are the same.
-pub mod WordLaws

@@ -1,2 +1,0 @@
--- Laws of the test.
-pub mod TestLaws

@@ -1,0 +1,2 @@
+-- Laws of the state's arrays that are written.
+pub mod WritableLaws

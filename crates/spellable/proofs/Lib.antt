@@ -1,2 +1,0 @@
--- Laws of the arrays that can be spelled.
-pub mod SpellableLaws
