@@ -1,30 +1,41 @@
 // What each call costs beside time: the instructions that it takes, counted under callgrind, and the stack that it takes at most.
-//   costs stack           prints the table of stacks
+//   costs stack           prints the table of stacks. That of a call on a state has nothing of the reading of the plan and the opening before it:
+//                         what the calls are lent lies in a page that faults at its first use, and then the stack is painted anew
 //   costs instructions    under callgrind, leaves one profile for each call and plan, labelled CALL|PLAN|ROUNDS; with 0 rounds the plan is read
 //                         and a run opened, so that the difference of two profiles is the calls' own
+#include <algorithm>
+#include <csignal>
 #include <cstdio>
 #include <cstdlib>
 #include <cstring>
 #include <functional>
+#include <sys/mman.h>
 #include <ucontext.h>
 
 #include <valgrind/callgrind.h>
 
 #include "calls.hpp"
 
-static uint64_t out[6 * 64];
+enum { PAGE = 4096 };
+static uint8_t *pages;
 static uint8_t bytes[48];
+
+// The words that the calls on a state are lent: a page, with one word more in front of it for a list of which the first word is read early.
+static uint64_t *lent() { return (uint64_t *)(pages + PAGE); }
 
 struct Call {
     const char *name;
+    bool on_a_state;
     std::function<void(const Case &, uint64_t rounds)> make;
 };
 
-static std::vector<uint64_t> halves(const Case &c) {
-    std::vector<uint64_t> window;
-    for (int a = 0; a < c.plan.axes; a++)
-        window.insert(window.end(), {1, 2});
-    return window;
+// The cut 1/2 for each axis, as words.
+static size_t put_halves(const Case &c) {
+    for (int a = 0; a < c.plan.axes; a++) {
+        lent()[2 * a] = 1;
+        lent()[2 * a + 1] = 2;
+    }
+    return 2 * (size_t)c.plan.axes;
 }
 
 static void c_count(const Case &c, uint64_t rounds) {
@@ -37,21 +48,21 @@ static void c_count(const Case &c, uint64_t rounds) {
 
 static std::vector<Call> calls() {
     return {
-        {"jump", [](const Case &c, uint64_t n) { bench_jumps(c.bytes.data(), c.bytes.size(), 123456789, n, out, 6); }},
-        {"step", [](const Case &c, uint64_t n) { bench_steps(c.bytes.data(), c.bytes.size(), 123456789, n, out, 6); }},
-        {"step in place", [](const Case &c, uint64_t n) { bench_steps_in_place(c.bytes.data(), c.bytes.size(), 123456789, n, out, 6); }},
-        {"block of 64", [](const Case &c, uint64_t n) { bench_blocks(c.bytes.data(), c.bytes.size(), 12345, n, out, 64 * (size_t)c.plan.axes); }},
-        {"count of 1,000",
-         [](const Case &c, uint64_t n) {
-             auto w = halves(c);
-             bench_counts(c.bytes.data(), c.bytes.size(), 12345, 1000, w.data(), w.size(), n);
-         }},
-        {"hisowake_point",
+        {"jump", true, [](const Case &c, uint64_t n) { bench_jumps(c.bytes.data(), c.bytes.size(), 123456789, n, lent(), 6); }},
+        {"second", true, [](const Case &c, uint64_t n) { bench_seconds(c.bytes.data(), c.bytes.size(), lent() - 1, n); }},
+        {"step", true, [](const Case &c, uint64_t n) { bench_steps(c.bytes.data(), c.bytes.size(), 123456789, n, lent(), 6); }},
+        {"step in place", true,
+         [](const Case &c, uint64_t n) { bench_steps_in_place(c.bytes.data(), c.bytes.size(), 123456789, n, lent(), 6); }},
+        {"block of 64", true,
+         [](const Case &c, uint64_t n) { bench_blocks(c.bytes.data(), c.bytes.size(), 12345, n, lent(), 64 * (size_t)c.plan.axes); }},
+        {"count of 1,000", true,
+         [](const Case &c, uint64_t n) { bench_counts(c.bytes.data(), c.bytes.size(), 12345, 1000, lent(), 2 * (size_t)c.plan.axes, n); }},
+        {"hisowake_point", false,
          [](const Case &c, uint64_t n) {
              for (uint64_t i = 0; i < n; i++)
                  hisowake_point(c.bytes.data(), c.bytes.size(), 123456789 ^ i, bytes, 48);
          }},
-        {"hisowake_window_count of 1,000", c_count},
+        {"hisowake_window_count of 1,000", false, c_count},
     };
 }
 
@@ -65,7 +76,9 @@ static void instructions() {
         for (const Case &c : plans())
             for (uint64_t rounds : {0, 20}) {
                 std::string label = std::string(call.name) + "|" + c.name + "|" + std::to_string(rounds);
+                put_halves(c);
                 call.make(c, rounds);
+                put_halves(c);
                 CALLGRIND_ZERO_STATS;
                 call.make(c, rounds);
                 CALLGRIND_DUMP_STATS_AT(label.c_str());
@@ -74,15 +87,36 @@ static void instructions() {
 
 // ---- the stack
 
-enum { STACK = 1 << 18, PAINT = 0xa5 };
-static uint8_t stack[STACK];
+enum { STACK = 1 << 18, PAINT = 0xa5, RED_ZONE = 128 };
+static uint8_t stack[STACK], signal_stack[1 << 16];
 static std::function<void()> work;
 static ucontext_t here, there;
 
 static void run_work() { work(); }
 
-// How many bytes of stack the work takes, on a painted stack of its own.
-static size_t stack_of(std::function<void()> w) {
+// The first use of the page: what the stack held so far, below where the call stands, is painted over.
+static void on_use(int, siginfo_t *info, void *context) {
+    uint8_t *at = (uint8_t *)info->si_addr;
+    uint8_t *top = (uint8_t *)((ucontext_t *)context)->uc_mcontext.gregs[REG_RSP] - RED_ZONE;
+    if (at < pages + PAGE || at >= pages + 2 * PAGE || top < stack || top >= stack + STACK)
+        abort();
+    mprotect(pages + PAGE, PAGE, PROT_READ | PROT_WRITE);
+    memset(stack, PAINT, (size_t)(top - stack));
+}
+
+static void watch() {
+    stack_t other = {};
+    other.ss_sp = signal_stack;
+    other.ss_size = sizeof signal_stack;
+    sigaltstack(&other, nullptr);
+    struct sigaction action = {};
+    action.sa_sigaction = on_use;
+    action.sa_flags = SA_SIGINFO | SA_ONSTACK;
+    sigaction(SIGSEGV, &action, nullptr);
+}
+
+// How many bytes of stack the work takes, on a painted stack of its own; with `after_use`, only from the first use of the page on.
+static size_t stack_of(bool after_use, std::function<void()> w) {
     work = w;
     memset(stack, PAINT, STACK);
     getcontext(&there);
@@ -90,7 +124,10 @@ static size_t stack_of(std::function<void()> w) {
     there.uc_stack.ss_size = STACK;
     there.uc_link = &here;
     makecontext(&there, run_work, 0);
+    if (after_use)
+        mprotect(pages + PAGE, PAGE, PROT_NONE);
     swapcontext(&here, &there);
+    mprotect(pages + PAGE, PAGE, PROT_READ | PROT_WRITE);
     size_t kept = 0;
     while (kept < STACK && stack[kept] == PAINT)
         kept++;
@@ -98,17 +135,23 @@ static size_t stack_of(std::function<void()> w) {
 }
 
 static void stacks() {
+    watch();
     printf("| call | bytes at most |\n|---|---|\n");
-    size_t none = stack_of([] {});
+    size_t none = stack_of(false, [] {});
     for (const Call &call : calls()) {
         size_t most = 0;
-        for (const Case &c : plans())
-            most = std::max(most, stack_of([&] { call.make(c, 2); }) - none);
+        for (const Case &c : plans()) {
+            put_halves(c);
+            most = std::max(most, stack_of(call.on_a_state, [&] { call.make(c, 3); }) - none);
+        }
         printf("| %s | %zu |\n", call.name, most);
     }
 }
 
 int main(int argc, char **argv) {
+    pages = (uint8_t *)mmap(nullptr, 2 * PAGE, PROT_READ | PROT_WRITE, MAP_PRIVATE | MAP_ANONYMOUS, -1, 0);
+    if (pages == MAP_FAILED)
+        return 1;
     if (argc == 2 && strcmp(argv[1], "stack") == 0)
         stacks();
     else

@@ -4,11 +4,12 @@ use mathlib.Core.List.{List}
 use Prim.Native.Nat.{ℕ, zero, suc, _%_, _^_}
 use lib.Bits.{bitXor}
 use lib.Dec.{ltb}
+use lib.ListN.{length, getD}
 use Rattle.permutation.specs.Families.{imageOf}
 use Rattle.halton.specs.Axis.{numerator}
 use Rattle.points.specs.Run.{runOf}
 use Rattle.state.specs.declared.Sampler.{Sampler}
-use Rattle.calls.specs.Calls.{readSpec, openSpec, jumpSpec, jumpBuf, stepSpec, stepBuf, blockSpec, blockBuf}
+use Rattle.calls.specs.Calls.{readSpec, openSpec, jumpSpec, jumpBuf, secondSpec, stepSpec, stepBuf, blockSpec, blockBuf}
 use Rattle.window_count.specs.Call.{countSpec}
 
 -- n rounds on a first value, each of which has its number, from 0
@@ -48,6 +49,9 @@ stepRound _ t = turn (stepSpec (t .state) (t .words) .code) (stepSpec (t .state)
 unfoldable pub axisRound : ℕ → ℕ → ℕ → ℕ → ℕ → ℕ
 axisRound family b first i x = bitXor x (numerator (imageOf family b) b (indexAt first i))
 
+unfoldable pub secondRound : Sampler → List ℕ → ℕ → ℕ → ℕ
+secondRound s indexes i x = bitXor x (secondSpec s (getD indexes i 0) .second)
+
 -- ---- the loops
 
 unfoldable pub blocksOf : Sampler → ℕ → List ℕ → Turn
@@ -62,6 +66,10 @@ stepsOf s n words = rounds stepRound (turn 0 s words) n
 -- the numerators' exclusive or, or 0 for a base outside 2 to 256
 unfoldable pub axisJumpsOf : ℕ → ℕ → ℕ → ℕ → ℕ
 axisJumpsOf family b first n = cond (ltb b 2) 0 (cond (ltb 256 b) 0 (rounds (axisRound family b first) 0 n))
+
+-- the exclusive or of the indexes' seconds
+unfoldable pub secondsOf : Sampler → List ℕ → ℕ
+secondsOf s indexes = rounds (secondRound s indexes) 0 (length indexes)
 
 -- S, or 0 where there was no round
 unfoldable pub countsOf : Sampler → List ℕ → ℕ → ℕ

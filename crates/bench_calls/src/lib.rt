@@ -3,7 +3,7 @@ use sampler::Moved;
 use sampler::Sampler;
 ghost use mathlib.Core.Path.{_≡_};
 ghost use Rattle.calls.specs.Calls.{stepSpec, stepBuf};
-ghost use Rattle.bench_calls.specs.Rounds.{openedState, blocksOf, jumpsOf, axisJumpsOf, stepsOf, countsOf};
+ghost use Rattle.bench_calls.specs.Rounds.{openedState, blocksOf, jumpsOf, axisJumpsOf, secondsOf, stepsOf, countsOf};
 
 // The state of a plan with a run opened.
 fn opened(plan: &[u8], start: u64, count: u64) -> Sampler
@@ -62,6 +62,22 @@ pub extern "C" fn bench_axis_jumps(family: u64, b: u64, first: u64, rounds: u64)
     while i < rounds {
         let r = halton::jump(family, b, &[], (first ^ i) % numbers::INDEXES);
         x = x ^ r.numerator;
+        i += 1;
+    }
+    x
+}
+
+// Asks for the second of the day of each index of a list. Answers the seconds' exclusive or.
+#[no_mangle]
+pub extern "C" fn bench_seconds(plan: &[u8], indexes: &[u64]) -> u64
+    ensures { λ r. ⌜ r ≡ secondsOf (openedState (now (plan .entry)) 0 0) (now (indexes .entry)) ⌝ }
+{
+    let s = opened(plan, 0, 0);
+    let mut x = 0;
+    let mut i = 0;
+    while i < indexes.len() {
+        let r = sampler::second(s, indexes[i]);
+        x = x ^ r.second;
         i += 1;
     }
     x

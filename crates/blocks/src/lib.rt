@@ -166,12 +166,12 @@ fn fill_by_tables(
 
 // Writes the `k` points of the indexes from `n` on to the front of `out`. For many points of a Halton plan tables of all axes are worth their
 // room.
-pub fn fill(
+pub fn fill<'a>(
     out: &mut [u64],
     family: u64,
     axes: usize,
-    bases: &[u64],
-    directions: &[u64],
+    bases: &'a [u64],
+    directions: &'a [u64],
     n: u64,
     k: usize,
 )

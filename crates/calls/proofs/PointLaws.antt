@@ -1,25 +1,26 @@
 -- What putting a point at the front of a buffer leaves, for the point that a genuine state holds and for any point of its plan. Assumes nothing.
 use mathlib.Core.Path.{_≡_, refl, sym, ap, _∙_}
-use mathlib.Core.Bool.{true}
+use mathlib.Core.Bool.{true, cond}
 use mathlib.Core.List.{List, _++_}
 use Prim.Native.Nat.{ℕ, _+_, _*_, _/_, _^_, _≤_, _<_, min}
 use native.Mathlib.Nat.{le-trans, mul-le-mul-right, div-mul-le-self, min-le-left, min-le-right}
 use native.Mathlib.Omega.{arith}
-use lib.ListN.{length, take, drop}
+use lib.Dec.{ltb}
+use lib.ListN.{length, take, drop, replicate}
 use Rattle.numbers.proofs.ListedLaws.{padded-take}
 use Rattle.bits.specs.Stream.{overwrite}
 use Rattle.bits.proofs.OverwriteLaws.{over-start}
 use Rattle.plan.specs.Plan.{Plan, Valid}
 use Rattle.points.specs.Point.{axisCount, numeratorOf, denominatorOf, pointOf}
-use Rattle.points.specs.Run.{inRange, runPoint, runPoints}
+use Rattle.points.specs.Run.{Run, runPoint, runPoints}
 use Rattle.points.proofs.RunLaws.{run-point}
 use Rattle.points.specs.Arrays.{numeratorAt, denominatorAt, pointAt, pointsAt, Arrays}
 use Rattle.points.proofs.PointLaws.{axis-count, denominator-of-lt, numerator-of-lt, point-of-length}
 use Rattle.points.proofs.ArrayLaws.{numerator-at-plan, denominator-at-plan}
-use Rattle.state.specs.State.{planIn, runIn, genuine}
+use Rattle.state.specs.State.{nextPoint, planIn, runIn, genuine}
 use Rattle.state.specs.declared.Sampler.{Sampler}
 use Rattle.state.proofs.GenuineLaws.{Genuine, genuine-is, genuine-range}
-use Rattle.state.proofs.StateLaws.{Holds, genuine-holds, genuine-arrays, genuine-point, genuine-steps, genuine-current}
+use Rattle.state.proofs.StateLaws.{Holds, genuine-holds, genuine-arrays, genuine-point, genuine-steps, genuine-current, genuine-next-of}
 
 module _ {p : Plan} {family axes : ℕ} {bases vs : List ℕ} (h : Holds p family axes bases vs) (v : Valid p) where
   holds-numerator : (n i : ℕ) → i < axes → numeratorAt family bases vs n i ≡ numeratorOf p n i
@@ -66,14 +67,16 @@ module _ (s : Sampler) (g : genuine s ≡ true) where
   pub known-arrays : Arrays (s .family) (s .axes) (s .bases) (s .directions)
   known-arrays = genuine-arrays is
 
-  pub known-range : inRange (runIn s) ≡ true
-  known-range = is .run .in-range
-
   pub known-run : (s .start + s .count ≤ 2 ^ 32) × (s .taken ≤ s .count)
   known-run = (genuine-range is, is .run .not-past)
 
   pub known-next : s .taken < s .count → s .numerators ≡ pointAt (s .family) (s .axes) (s .bases) (s .directions) (s .start + s .taken)
   known-next h = genuine-current is h
+
+  -- the next point of any run, by the state's arrays
+  pub next-of : (r : Run) (taken : ℕ)
+      → cond (ltb taken (r .count)) (pointAt (s .family) (s .axes) (s .bases) (s .directions) (r .start + taken)) (replicate 6 0) ≡ nextPoint (planIn s) r taken
+  next-of = genuine-next-of is
 
   -- ---- one axis
 

@@ -1,14 +1,13 @@
 // The test that a state is genuine, over its arrays in place: axis by axis, with no second state and no bytes.
-use state::Sampler;
 ghost use mathlib.Core.Path.{_≡_};
 ghost use mathlib.Core.Bool.{true};
 ghost use mathlib.Core.Logic.{_↔_};
 ghost use Prim.Native.Nat.{_+_, _^_, _<_, _≤_};
 ghost use lib.ListN.{length};
-ghost use Rattle.fitting.specs.Fits.{ZeroFrom, CoprimeTo, FitBases, FitHalton, NewTo, FitAxes, FitSobol, FitPlan, FitPoint, FitNext};
+ghost use Rattle.fitting.specs.Fits.{ZeroFrom, CoprimeTo, FitBases, FitHalton, NewTo, FitAxes, FitSobol, FitPlan, FitPoint, FitNext, Sized};
 ghost use Rattle.points.specs.Arrays.{Arrays};
 ghost use Rattle.points.specs.Run.{runOf};
-ghost use Rattle.state.specs.State.{permitted, genuine};
+ghost use Rattle.state.specs.State.{stateOf, permitted, genuine};
 
 // Whether the words from place `from` on are 0.
 fn is_zero(words: &[u64], from: usize) -> bool
@@ -174,7 +173,14 @@ fn is_permitted(start: u64, count: u64, taken: u64) -> bool
 }
 
 // Whether the words of `x` are the point of index `n`.
-fn is_point(family: u64, axes: usize, bases: &[u64], directions: &[u64], x: &[u64], n: u64) -> bool
+fn is_point<'a>(
+    family: u64,
+    axes: usize,
+    bases: &'a [u64],
+    directions: &'a [u64],
+    x: &[u64],
+    n: u64,
+) -> bool
     requires { ⌜ Arrays family axes (now bases) (now directions) × (length (now x) ≡ 6) × (n < 2 ^ 32) ⌝ }
     ensures { λ r. ⌜ (r ≡ true) ↔ FitPoint family axes (now (bases .entry)) (now (directions .entry)) (now (x .entry)) n ⌝ }
 {
@@ -209,34 +215,42 @@ fn is_next<'a>(
     is_zero(x, 0)
 }
 
-// Whether some accepted reading, with any accepted openings, steps and blocks after it, leaves the state.
-pub fn is_genuine(s: Sampler) -> bool
-    ensures { λ r. ⌜ r ≡ genuine s ⌝ }
+// Whether some accepted reading, with any accepted openings, steps and blocks after it, leaves the state. Its words are lent, since a state
+// by value is a copy of 1.7 KiB.
+pub fn is_genuine<'a>(
+    family: u64,
+    axes: usize,
+    bases: &'a [u64],
+    polynomials: &'a [u64],
+    directions: &'a [u64],
+    start: u64,
+    count: u64,
+    taken: u64,
+    numerators: &'a [u64],
+) -> bool
+    requires { ⌜ Sized (stateOf family axes (now bases) (now polynomials) (now directions) start count taken (now numerators)) ⌝ }
+    ensures { λ r. ⌜ r ≡ genuine (stateOf family axes (now (bases .entry)) (now (polynomials .entry)) (now (directions .entry)) start count taken (now (numerators .entry))) ⌝ }
 {
-    if !is_permitted(s.start, s.count, s.taken) {
+    if !is_permitted(start, count, taken) {
         return false;
     }
-    if s.axes < 1 {
+    if axes < 1 {
         return false;
     }
-    if 6 < s.axes {
+    if 6 < axes {
         return false;
     }
-    let bases = s.bases;
-    let polynomials = s.polynomials;
-    let directions = s.directions;
-    if !is_plan(s.family, s.axes, &bases, &polynomials, &directions) {
+    if !is_plan(family, axes, bases, polynomials, directions) {
         return false;
     }
-    let numerators = s.numerators;
     is_next(
-        s.family,
-        s.axes,
-        &bases,
-        &directions,
-        &numerators,
-        s.start,
-        s.count,
-        s.taken,
+        family,
+        axes,
+        bases,
+        directions,
+        numerators,
+        start,
+        count,
+        taken,
     )
 }

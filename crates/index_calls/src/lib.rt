@@ -11,7 +11,17 @@ ghost use Rattle.calls.specs.Calls.{jumpSpec, jumpBuf, secondSpec};
 pub fn jump(s: Sampler, n: u64, out: &mut [u64]) -> Jumped
     ensures { λ r. ⌜ (r ≡ jumpSpec s n (now (out .entry))) × (now (out .exit) ≡ jumpBuf s n (now (out .entry))) ⌝ }
 {
-    if !genuine::is_genuine(s) {
+    if !genuine::is_genuine(
+        s.family,
+        s.axes,
+        &s.bases,
+        &s.polynomials,
+        &s.directions,
+        s.start,
+        s.count,
+        s.taken,
+        &s.numerators,
+    ) {
         return Jumped {
             code: refusal::INVALID_STATE,
         };
@@ -27,9 +37,7 @@ pub fn jump(s: Sampler, n: u64, out: &mut [u64]) -> Jumped
             code: refusal::BUFFER_TOO_SMALL,
         };
     }
-    let bases = s.bases;
-    let directions = s.directions;
-    let x = points::point(s.family, axes, &bases, &directions, n);
+    let x = points::point(s.family, axes, &s.bases, &s.directions, n);
     bits::store(out, 0, &x[..axes]);
     Jumped { code: 0 }
 }
@@ -46,7 +54,17 @@ fn second_of(x: u64, d: u64) -> u64
 pub fn second(s: Sampler, n: u64) -> SecondOfDay
     ensures { λ r. ⌜ r ≡ secondSpec s n ⌝ }
 {
-    if !genuine::is_genuine(s) {
+    if !genuine::is_genuine(
+        s.family,
+        s.axes,
+        &s.bases,
+        &s.polynomials,
+        &s.directions,
+        s.start,
+        s.count,
+        s.taken,
+        &s.numerators,
+    ) {
         return SecondOfDay {
             code: refusal::INVALID_STATE,
             second: 0,
@@ -58,10 +76,8 @@ pub fn second(s: Sampler, n: u64) -> SecondOfDay
             second: 0,
         };
     }
-    let bases = s.bases;
-    let directions = s.directions;
-    let x = points::numerator(s.family, &bases, &directions, n, 0);
-    let d = points::denominator(s.family, &bases, 0);
+    let x = points::numerator(s.family, &s.bases, &s.directions, n, 0);
+    let d = points::denominator(s.family, &s.bases, 0);
     SecondOfDay {
         code: 0,
         second: second_of(x, d),

@@ -79,11 +79,11 @@ fn count_part(
 }
 
 // How many of the `k` points from index `n` on are inside.
-pub fn count_inside(
+pub fn count_inside<'a>(
     family: u64,
     axes: usize,
-    bases: &[u64],
-    directions: &[u64],
+    bases: &'a [u64],
+    directions: &'a [u64],
     n: u64,
     k: usize,
     w: &[u64],

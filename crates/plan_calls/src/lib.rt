@@ -4,11 +4,9 @@ use plan::refusal;
 use state::Sampler;
 use writer::PlanWritten;
 ghost use mathlib.Core.Path.{_≡_};
-ghost use mathlib.Core.Bool.{true};
 ghost use lib.ListN.{length};
-ghost use Rattle.writer.specs.Parts.{Written};
 ghost use Rattle.points.specs.Run.{runOf};
-ghost use Rattle.state.specs.State.{msIn, planIn, genuine};
+ghost use Rattle.state.specs.State.{msIn};
 ghost use Rattle.calls.specs.Calls.{readSpec, writeSpec, writeBuf, openSpec};
 
 // Reads a plan: the state with start 0 and count 0, or the blank state.
@@ -23,7 +21,7 @@ pub fn read(bytes: &[u8]) -> Moved
             state: s,
         };
     }
-    let s = state::make(a, 0, 0, 0);
+    let s = state::make(a);
     Moved { code: 0, state: s }
 }
 
@@ -42,41 +40,51 @@ fn ms_of(directions: &[u64]) -> [u64; 72]
     ms
 }
 
-// Writes the plan of a genuine state to the front of `out`.
-fn write_plan(s: Sampler, out: &mut [u8]) -> PlanWritten
-    requires { ⌜ genuine s ≡ true ⌝ }
-    ensures { λ r. ⌜ Written (planIn s) (now (out .entry)) (now (out .exit)) (r .code) (r .len) ⌝ }
-{
-    let bases = s.bases;
-    let polynomials = s.polynomials;
-    let directions = s.directions;
-    let ms = ms_of(&directions);
-    writer::write_plan(out, s.family, s.axes, &bases, &polynomials, &ms)
-}
-
 // Writes the plan's bytes to the front of `out` and reports their number.
 pub fn write(s: Sampler, out: &mut [u8]) -> PlanWritten
     ensures { λ r. ⌜ (r ≡ writeSpec s (now (out .entry))) × (now (out .exit) ≡ writeBuf s (now (out .entry))) ⌝ }
 {
-    if !genuine::is_genuine(s) {
+    if !genuine::is_genuine(
+        s.family,
+        s.axes,
+        &s.bases,
+        &s.polynomials,
+        &s.directions,
+        s.start,
+        s.count,
+        s.taken,
+        &s.numerators,
+    ) {
         return PlanWritten {
             code: refusal::INVALID_STATE,
             len: 0,
         };
     }
-    write_plan(s, out)
+    let ms = ms_of(&s.directions);
+    writer::write_plan(out, s.family, s.axes, &s.bases, &s.polynomials, &ms)
 }
 
 // Opens a run, which replaces the old one.
 pub fn open(s: Sampler, start: u64, count: u64) -> Moved
     ensures { λ r. ⌜ r ≡ openSpec s (runOf start count) ⌝ }
 {
-    if !genuine::is_genuine(s) {
+    if !genuine::is_genuine(
+        s.family,
+        s.axes,
+        &s.bases,
+        &s.polynomials,
+        &s.directions,
+        s.start,
+        s.count,
+        s.taken,
+        &s.numerators,
+    ) {
         return calls::refused(refusal::INVALID_STATE, s);
     }
     if !points::in_range(start, count) {
         return calls::refused(refusal::OUT_OF_RANGE, s);
     }
-    let t = state::with_run(s, start, count, 0);
+    let next = state::next_point(s.family, s.axes, &s.bases, &s.directions, start, count, 0);
+    let t = state::with_run(s, start, count, 0, next);
     Moved { code: 0, state: t }
 }

@@ -15,7 +15,7 @@ pub fn in_range(start: u64, count: u64) -> bool
 }
 
 // The numerator of index `n` on axis `i`, by a jump.
-pub fn numerator(family: u64, bases: &[u64], directions: &[u64], n: u64, i: usize) -> u64
+pub fn numerator<'a>(family: u64, bases: &'a [u64], directions: &'a [u64], n: u64, i: usize) -> u64
     requires { ⌜ AxisAt family (now bases) (now directions) i × (n < 2 ^ 32) ⌝ }
     ensures { λ r. ⌜ r ≡ numeratorAt family (now (bases .entry)) (now (directions .entry)) n i ⌝ }
 {
@@ -54,7 +54,13 @@ pub fn denominator(family: u64, bases: &[u64], i: usize) -> u64
 }
 
 // The point of index `n`, by jumps.
-pub fn point(family: u64, axes: usize, bases: &[u64], directions: &[u64], n: u64) -> [u64; 6]
+pub fn point<'a>(
+    family: u64,
+    axes: usize,
+    bases: &'a [u64],
+    directions: &'a [u64],
+    n: u64,
+) -> [u64; 6]
     requires { ⌜ Arrays family axes (now bases) (now directions) × (n < 2 ^ 32) ⌝ }
     ensures { λ r. ⌜ r ≡ pointAt family axes (now (bases .entry)) (now (directions .entry)) n ⌝ }
 {
@@ -69,11 +75,11 @@ pub fn point(family: u64, axes: usize, bases: &[u64], directions: &[u64], n: u64
 }
 
 // The point of index `n + 1`, by a step from that of index `n`, which is `x`.
-pub fn advance(
+pub fn advance<'a>(
     family: u64,
     axes: usize,
-    bases: &[u64],
-    directions: &[u64],
+    bases: &'a [u64],
+    directions: &'a [u64],
     n: u64,
     x: [u64; 6],
 ) -> [u64; 6]

@@ -11,7 +11,17 @@ ghost use Rattle.calls.specs.Calls.{blocked, stepSpec, stepBuf, blockSpec, bloc
 pub fn step(s: Sampler, out: &mut [u64]) -> Moved
     ensures { λ r. ⌜ (r ≡ stepSpec s (now (out .entry))) × (now (out .exit) ≡ stepBuf s (now (out .entry))) ⌝ }
 {
-    if !genuine::is_genuine(s) {
+    if !genuine::is_genuine(
+        s.family,
+        s.axes,
+        &s.bases,
+        &s.polynomials,
+        &s.directions,
+        s.start,
+        s.count,
+        s.taken,
+        &s.numerators,
+    ) {
         return calls::refused(refusal::INVALID_STATE, s);
     }
     if s.count <= s.taken {
@@ -23,7 +33,17 @@ pub fn step(s: Sampler, out: &mut [u64]) -> Moved
     }
     let x = s.numerators;
     bits::store(out, 0, &x[..axes]);
-    let t = state::advanced(s);
+    let next = state::point_after(
+        s.family,
+        axes,
+        &s.bases,
+        &s.directions,
+        s.start,
+        s.count,
+        s.taken,
+        x,
+    );
+    let t = state::with_run(s, s.start, s.count, s.taken + 1, next);
     Moved { code: 0, state: t }
 }
 
@@ -55,7 +75,17 @@ fn block_size(left: u64, room: usize, axes: usize) -> usize
 pub fn block(s: Sampler, out: &mut [u64]) -> Blocked
     ensures { λ r. ⌜ (r ≡ blockSpec s (now (out .entry))) × (now (out .exit) ≡ blockBuf s (now (out .entry))) ⌝ }
 {
-    if !genuine::is_genuine(s) {
+    if !genuine::is_genuine(
+        s.family,
+        s.axes,
+        &s.bases,
+        &s.polynomials,
+        &s.directions,
+        s.start,
+        s.count,
+        s.taken,
+        &s.numerators,
+    ) {
         return no_block(refusal::INVALID_STATE, s);
     }
     if s.taken >= s.count {
@@ -65,19 +95,27 @@ pub fn block(s: Sampler, out: &mut [u64]) -> Blocked
     if out.len() < axes {
         return no_block(refusal::BUFFER_TOO_SMALL, s);
     }
-    let bases = s.bases;
-    let directions = s.directions;
     let k = block_size(s.count - s.taken, out.len(), axes);
     blocks::fill(
         out,
         s.family,
         axes,
-        &bases,
-        &directions,
+        &s.bases,
+        &s.directions,
         s.start + s.taken,
         k,
     );
-    let t = state::with_run(s, s.start, s.count, s.taken + (k as u64));
+    let taken = s.taken + (k as u64);
+    let next = state::next_point(
+        s.family,
+        axes,
+        &s.bases,
+        &s.directions,
+        s.start,
+        s.count,
+        taken,
+    );
+    let t = state::with_run(s, s.start, s.count, taken, next);
     Blocked {
         code: 0,
         points: k as u64,

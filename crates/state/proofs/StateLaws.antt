@@ -170,13 +170,10 @@ module _ {s : Sampler} (g : Genuine s) where
   genuine-current h =
       genuine-next ∙ sym (next-some (planIn s) (runIn s) (s .taken) h) ∙ sym (holds-step genuine-holds (g .valid) (runIn s) (s .taken))
 
-  -- where another is left, it is the one after
-  pub genuine-stepped : s .taken + 1 < s .count
-      → pointAt (s .family) (s .axes) (s .bases) (s .directions) (s .start + s .taken + 1) ≡ nextPoint (planIn s) (runIn s) (s .taken + 1)
-  genuine-stepped h =
-      let e : s .start + s .taken + 1 ≡ s .start + (s .taken + 1) = omega arith in
-      ap (pointAt (s .family) (s .axes) (s .bases) (s .directions)) e
-      ∙ holds-step genuine-holds (g .valid) (runIn s) (s .taken + 1) ∙ next-some (planIn s) (runIn s) (s .taken + 1) h
+  -- the next point of any run, by the state's arrays
+  pub genuine-next-of : (r : Run) (taken : ℕ)
+      → cond (ltb taken (r .count)) (pointAt (s .family) (s .axes) (s .bases) (s .directions) (r .start + taken)) (replicate 6 0) ≡ nextPoint (planIn s) r taken
+  genuine-next-of = holds-next genuine-holds (g .valid)
 
 -- the blank state has no axes, and no plan is so
 pub blank-foreign : genuine blank ≡ false

@@ -18,6 +18,20 @@ unfoldable pub both : Bool → Bool → Bool
 both true b = b
 both false b = false
 
+-- a state by its words, in the struct's order
+abbrev pub stateOf : ℕ → ℕ → List ℕ → List ℕ → List ℕ → ℕ → ℕ → ℕ → List ℕ → Sampler
+stateOf family axes bases polynomials directions start count taken numerators = record {
+  family = family;
+  axes = axes;
+  bases = bases;
+  polynomials = polynomials;
+  directions = directions;
+  start = start;
+  count = count;
+  taken = taken;
+  numerators = numerators;
+}
+
 -- ---- the state of a run
 
 -- the run's next point, and zeros where no point is left, 0 on the axes that the plan lacks

@@ -9,8 +9,8 @@ ghost use Rattle.numbers.specs.Listed.{padded};
 ghost use Rattle.plan.specs.Plan.{Valid, sobol};
 ghost use Rattle.plan.specs.Answer.{axesOf, planAnswered, Accepted};
 ghost use Rattle.points.specs.Arrays.{directionsIn, directionsArray, Arrays, pointAt};
-ghost use Rattle.points.specs.Run.{runOf, inRange};
-ghost use Rattle.state.specs.State.{planIn, runIn, nextPoint, made, blank, genuine};
+ghost use Rattle.points.specs.Run.{runOf};
+ghost use Rattle.state.specs.State.{planIn, nextPoint, made, blank, genuine};
 
 // A sampler: its plan, its run, and how many of the run's points are taken. `directions` has 32 words for each Sobol axis; `numerators` is
 // the next point, and 0 where none is left. Entries that are not used are 0.
@@ -77,11 +77,11 @@ pub fn plan_directions(a: PlanRead) -> [u64; 192]
 }
 
 // The point of index start + taken, and zeros where no point is left.
-pub fn next_point(
+pub fn next_point<'a>(
     family: u64,
     axes: usize,
-    bases: &[u64],
-    directions: &[u64],
+    bases: &'a [u64],
+    directions: &'a [u64],
     start: u64,
     count: u64,
     taken: u64,
@@ -95,70 +95,57 @@ pub fn next_point(
     [0; 6]
 }
 
-// The state with a plan that the reader accepted, this run, and so many of its points taken.
-pub fn make(a: PlanRead, start: u64, count: u64, taken: u64) -> Sampler
-    requires { ⌜ Accepted a × (inRange (runOf start count) ≡ true) ⌝ }
-    ensures { λ r. ⌜ r ≡ made (planAnswered a) (runOf start count) taken ⌝ }
+// The point after that of index start + taken, which is `x`, by a step, and zeros where none is left.
+pub fn point_after<'a>(
+    family: u64,
+    axes: usize,
+    bases: &'a [u64],
+    directions: &'a [u64],
+    start: u64,
+    count: u64,
+    taken: u64,
+    x: [u64; 6],
+) -> [u64; 6]
+    requires { ⌜ Arrays family axes (now bases) (now directions) × (start + count ≤ 2 ^ 32) × (taken < count)
+        × (x ≡ pointAt family axes (now bases) (now directions) (start + taken)) ⌝ }
+    ensures { λ r. ⌜ r ≡ cond (ltb (taken + 1) count) (pointAt family axes (now (bases .entry)) (now (directions .entry)) (start + (taken + 1))) (replicate 6 0) ⌝ }
 {
-    let family = a.family;
-    let axes = a.axes;
+    if taken + 1 < count {
+        return points::advance(family, axes, bases, directions, start + taken, x);
+    }
+    [0; 6]
+}
+
+// The state with a plan that the reader accepted, and the run that starts at 0 and has no points.
+pub fn make(a: PlanRead) -> Sampler
+    requires { ⌜ Accepted a ⌝ }
+    ensures { λ r. ⌜ r ≡ made (planAnswered a) (runOf 0 0) 0 ⌝ }
+{
     let bases = a.bases;
     let polynomials = a.polynomials;
     let directions = plan_directions(a);
-    let numerators = next_point(family, axes, &bases, &directions, start, count, taken);
     Sampler {
-        family,
-        axes,
+        family: a.family,
+        axes: a.axes,
         bases,
         polynomials,
         directions,
-        start,
-        count,
-        taken,
-        numerators,
+        start: 0,
+        count: 0,
+        taken: 0,
+        numerators: [0; 6],
     }
 }
 
-// ---- from one genuine state to the next
-
-// The state with another run, so many of whose points are taken.
-pub fn with_run(s: Sampler, start: u64, count: u64, taken: u64) -> Sampler
-    requires { ⌜ (genuine s ≡ true) × (inRange (runOf start count) ≡ true) ⌝ }
+// A genuine state with another run, so many of whose points are taken, and the point that is next then.
+pub fn with_run(s: Sampler, start: u64, count: u64, taken: u64, next: [u64; 6]) -> Sampler
+    requires { ⌜ (genuine s ≡ true) × (next ≡ nextPoint (planIn s) (runOf start count) taken) ⌝ }
     ensures { λ r. ⌜ r ≡ made (planIn s) (runOf start count) taken ⌝ }
 {
-    let bases = s.bases;
-    let directions = s.directions;
-    let numerators = next_point(s.family, s.axes, &bases, &directions, start, count, taken);
     let mut t = s;
     t.start = start;
     t.count = count;
     t.taken = taken;
-    t.numerators = numerators;
-    t
-}
-
-// The point after the state's next one, by a step, and zeros where none is left.
-fn stepped_point(s: Sampler) -> [u64; 6]
-    requires { ⌜ (genuine s ≡ true) × (s .taken < s .count) ⌝ }
-    ensures { λ r. ⌜ r ≡ nextPoint (planIn s) (runIn s) (s .taken + 1) ⌝ }
-{
-    if s.count <= s.taken + 1 {
-        return [0; 6];
-    }
-    let bases = s.bases;
-    let directions = s.directions;
-    let x = s.numerators;
-    points::advance(s.family, s.axes, &bases, &directions, s.start + s.taken, x)
-}
-
-// The state with one point more taken.
-pub fn advanced(s: Sampler) -> Sampler
-    requires { ⌜ (genuine s ≡ true) × (s .taken < s .count) ⌝ }
-    ensures { λ r. ⌜ r ≡ made (planIn s) (runIn s) (s .taken + 1) ⌝ }
-{
-    let next = stepped_point(s);
-    let mut t = s;
-    t.taken = s.taken + 1;
     t.numerators = next;
     t
 }

@@ -34,13 +34,13 @@ fn put_fraction(out: &mut [u8], at: usize, x: u64, d: u64) -> usize
 }
 
 // The fractions of index `n`, axis by axis.
-fn put_fractions(
+fn put_fractions<'a>(
     out: &mut [u8],
     start: usize,
     family: u64,
     axes: usize,
-    bases: &[u64],
-    directions: &[u64],
+    bases: &'a [u64],
+    directions: &'a [u64],
     n: u64,
 ) -> usize
     requires { ⌜ Arrays family axes (now bases) (now directions) × (n < 2 ^ 32) × (start + 168 ≤ length (now out)) ⌝ }
@@ -58,13 +58,13 @@ fn put_fractions(
 }
 
 // The line of index `n`.
-fn put_line(
+fn put_line<'a>(
     out: &mut [u8],
     at: usize,
     family: u64,
     axes: usize,
-    bases: &[u64],
-    directions: &[u64],
+    bases: &'a [u64],
+    directions: &'a [u64],
     n: u64,
 ) -> usize
     requires { ⌜ Arrays family axes (now bases) (now directions) × (n < 2 ^ 32) × (at + 200 ≤ length (now out)) ⌝ }
@@ -76,13 +76,13 @@ fn put_line(
 }
 
 // The lines of the indexes 0 to 3.
-fn put_lines(
+fn put_lines<'a>(
     out: &mut [u8],
     start: usize,
     family: u64,
     axes: usize,
-    bases: &[u64],
-    directions: &[u64],
+    bases: &'a [u64],
+    directions: &'a [u64],
 ) -> usize
     requires { ⌜ Arrays family axes (now bases) (now directions) × (start + 800 ≤ length (now out)) ⌝ }
     ensures { λ r. ⌜ TextPut (now (out .entry)) (now (out .exit)) start (linesAt family axes (now (bases .entry)) (now (directions .entry)) 4) r × (r ≤ start + 800) ⌝ }
@@ -101,7 +101,7 @@ fn put_accepted(out: &mut [u8], a: PlanRead) -> usize
     requires { ⌜ Accepted a × (819 ≤ length (now out)) ⌝ }
     ensures { λ r. ⌜ TextPut (now (out .entry)) (now (out .exit)) 0 (textOf (accepted (planAnswered a))) r ⌝ }
 {
-    let s = state::make(a, 0, 0, 0);
+    let s = state::make(a);
     let bases = s.bases;
     let directions = s.directions;
     let after_head = put_head(out, &[b'a', b'x', b'e', b's', b' '], s.axes as u64);

@@ -47,7 +47,7 @@ fn bound_factor(b: u64, n: u64) -> u64
 }
 
 // The bound of a run of `n` points: the product of the axes' factors, and 0 for Sobol, which claims none.
-pub fn bound(family: u64, axes: usize, bases: &[u64], directions: &[u64], n: u64) -> u64
+pub fn bound<'a>(family: u64, axes: usize, bases: &'a [u64], directions: &'a [u64], n: u64) -> u64
     requires { ⌜ Arrays family axes (now bases) (now directions) × (n ≤ 2 ^ 32) ⌝ }
     ensures { λ r. ⌜ r ≡ boundBy (eqb family 2) (now (bases .entry)) n axes ⌝ }
 {

@@ -26,25 +26,33 @@ fn refused(code: u64) -> Counted
 pub fn count(s: Sampler, w: &[u64]) -> Counted
     ensures { λ r. ⌜ r ≡ countSpec s (now (w .entry)) ⌝ }
 {
-    if !genuine::is_genuine(s) {
+    if !genuine::is_genuine(
+        s.family,
+        s.axes,
+        &s.bases,
+        &s.polynomials,
+        &s.directions,
+        s.start,
+        s.count,
+        s.taken,
+        &s.numerators,
+    ) {
         return refused(refusal::INVALID_STATE);
     }
     let axes = s.axes;
     if !window::is_window(w, axes) {
         return refused(refusal::BAD_WINDOW);
     }
-    let bases = s.bases;
-    let directions = s.directions;
     let inside = inside_count::count_inside(
         s.family,
         axes,
-        &bases,
-        &directions,
+        &s.bases,
+        &s.directions,
         s.start,
         s.count as usize,
         w,
     );
-    let bound = window::bound(s.family, axes, &bases, &directions, s.count);
+    let bound = window::bound(s.family, axes, &s.bases, &s.directions, s.count);
     Counted {
         code: 0,
         inside,

@@ -48,12 +48,12 @@ pub struct PlanWritten {
 }
 
 // Writes the plan that the arrays hold to the front of `out`.
-pub fn write_plan(
+pub fn write_plan<'a>(
     out: &mut [u8],
     family: u64,
     axes: usize,
-    bases: &[u64],
-    polynomials: &[u64],
+    bases: &'a [u64],
+    polynomials: &'a [u64],
     ms: &[u64],
 ) -> PlanWritten
     requires { ⌜ Writable family axes (now bases) (now polynomials) (now ms) ⌝ }

@@ -11,12 +11,16 @@ use Rattle.index_calls.proofs.jump.Statement.{statement}
 use Rattle.index_calls.proofs.jump.Tie as tie
 
 is-genuine-requires : tie.Need-is-genuine-requires
-is-genuine-requires c κs = tt
+is-genuine-requires c κs = search needs
 
-foreign : (c : tie.Then1) → genuine (c .before .before .before .args .s) ≡ false
+-- where the state is tested, and where it is genuine: the call's start
+abbrev start : tie.After-is-genuine → tie.Start
+start c = c .before .before .before .before .before .before .before .before .before .before .before
+
+foreign : (c : tie.Then1) → genuine (start (c .before) .args .t1) ≡ false
 foreign c = foreign-of _ _ (c .before .is-genuine .ensures) (c .if1 .taken)
 
-known : (c : tie.Else1) → genuine (c .before .before .before .args .s) ≡ true
+known : (c : tie.Else1) → genuine (start (c .before) .args .t1) ≡ true
 known c = known-of _ _ (c .before .is-genuine .ensures) (c .if1 .left)
 
 returns : tie.Need-returns
@@ -24,29 +28,28 @@ returns c = let w = jump-foreign _ _ _ (foreign c) in (sym (w .0), sym (w .1))
 
 returns-2 : tie.Need-returns-2
 returns-2 c =
-    let a = c .before .before .before .before .args in
-    let w = jump-out (a .s) (a .n) (a .out .now) (known (c .before)) (omega arith) in (sym (w .0), sym (w .1))
+    let a = start (c .before .before) .args in
+    let w = jump-out (a .t1) (a .n) (a .out .now) (known (c .before)) (omega arith) in (sym (w .0), sym (w .1))
 
 returns-3 : tie.Need-returns-3
 returns-3 c =
-    let a = c .before .before .before .before .before .args in
-    let w = jump-no-room (a .s) (a .n) (a .out .now) (known (c .before .before)) (omega arith) (omega arith) in (sym (w .0), sym (w .1))
+    let k = c .before .before in
+    let a = start (k .before) .args in
+    let w = jump-no-room (a .t1) (a .n) (a .out .now) (known k) (omega arith) (omega arith) in (sym (w .0), sym (w .1))
 
-slice-aggregate-point : tie.Need-slice-aggregate-point
-slice-aggregate-point c = search needs
-
-slice-aggregate-point-2 : tie.Need-slice-aggregate-point-2
-slice-aggregate-point-2 c = search needs
+-- where the point is made, the state is genuine
+abbrev made : tie.After-point → tie.Else1
+made c = c .before .before .before .before .before .before .before .before
 
 point-requires : tie.Need-point-requires
-point-requires c κs = (known-arrays _ (known (c .before .before .before .before .before .before)), omega arith)
+point-requires c κs = (known-arrays _ (known (c .before .before .before .before .before .before .before)), omega arith)
 
 -- the words that are stored are the point's, one an axis
-front : (c : tie.After-point) → let a = c .before .before .before .before .before .before .before .before .before .before .args in length (take (a .s .axes) (c .point .result)) ≡ a .s .axes
-front c = let a = c .before .before .before .before .before .before .before .before .before .before .args in front-long (a .s) (known (c .before .before .before .before .before .before .before)) (c .point .result) (a .n) (c .point .ensures)
+front : (c : tie.After-point) → let a = start (made c .before) .args in length (take (a .t1 .axes) (c .point .result)) ≡ a .t1 .axes
+front c = let a = start (made c .before) .args in front-long (a .t1) (known (made c)) (c .point .result) (a .n) (c .point .ensures)
 
 array-share-prefix-x : tie.Need-array-share-prefix-x
-array-share-prefix-x c = omega (arith, axes-few _ (known (c .before .before .before .before .before .before .before .before)))
+array-share-prefix-x c = omega (arith, axes-few _ (known (made (c .before))))
 
 slice-aggregate-store : tie.Need-slice-aggregate-store
 slice-aggregate-store c = sym (front (c .before .before))
@@ -60,10 +63,10 @@ same-length c = search needs
 returns-4 : tie.Need-returns-4
 returns-4 c =
     let p = c .before .before in
-    let s = p .before .before .before .before .before .before .before .before .before .before in
-    let a = s .before .before .before .args in
-    let w = jump-done (a .s) (a .n) (a .out .now) (known s) (omega arith) (omega arith) in
-    (sym (w .0), point-put (a .s) (known s) (a .out .now) _ _ (a .n) (p .before .before .before .point .ensures) (p .store .ensures) ∙ sym (w .1))
+    let k = known (made (p .before .before .before)) in
+    let a = start (made (p .before .before .before) .before) .args in
+    let w = jump-done (a .t1) (a .n) (a .out .now) k (omega arith) (omega arith) in
+    (sym (w .0), point-put (a .t1) k (a .out .now) _ _ (a .n) (p .before .before .before .point .ensures) (p .store .ensures) ∙ sym (w .1))
 
 pub jump-spec : {M : Type 1} → statement M
 jump-spec =
@@ -73,8 +76,6 @@ jump-spec =
     returns
     returns-2
     returns-3
-    slice-aggregate-point
-    slice-aggregate-point-2
     point-requires
     array-share-prefix-x
     slice-aggregate-store

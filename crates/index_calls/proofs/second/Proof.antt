@@ -14,12 +14,16 @@ use Rattle.index_calls.proofs.second.Statement.{statement}
 use Rattle.index_calls.proofs.second.Tie as tie
 
 is-genuine-requires : tie.Need-is-genuine-requires
-is-genuine-requires c κs = tt
+is-genuine-requires c κs = search needs
 
-foreign : (c : tie.Then1) → genuine (c .before .before .args .s) ≡ false
+-- where the state is tested: the call's start
+abbrev start : tie.After-is-genuine → tie.Start
+start c = c .before .before .before .before .before .before .before .before .before .before
+
+foreign : (c : tie.Then1) → genuine (start (c .before) .args .t1) ≡ false
 foreign c = foreign-of _ _ (c .before .is-genuine .ensures) (c .if1 .taken)
 
-known : (c : tie.Else1) → genuine (c .before .before .args .s) ≡ true
+known : (c : tie.Else1) → genuine (start (c .before) .args .t1) ≡ true
 known c = known-of _ _ (c .before .is-genuine .ensures) (c .if1 .left)
 
 returns : tie.Need-returns
@@ -28,37 +32,30 @@ returns c = sym (second-foreign _ _ (foreign c))
 returns-2 : tie.Need-returns-2
 returns-2 c = sym (second-out _ _ (known (c .before)) (omega arith))
 
-slice-aggregate-numerator : tie.Need-slice-aggregate-numerator
-slice-aggregate-numerator c = search needs
-
-slice-aggregate-numerator-2 : tie.Need-slice-aggregate-numerator-2
-slice-aggregate-numerator-2 c = search needs
-
 numerator-requires : tie.Need-numerator-requires
 numerator-requires c κs =
-    let s = c .before .before .before .before .before in
+    let s = c .before .before .before .before .before .before in
     (axis-at (known-arrays _ (known s)) _ (omega (arith, axes-few _ (known s))), omega arith)
 
-slice-aggregate-denominator : tie.Need-slice-aggregate-denominator
-slice-aggregate-denominator c = search needs
+-- where the denominator is made, the state is genuine
+abbrev asked : tie.After-denominator-arg2 → tie.Else1
+asked c = c .before .before .before .before .before .before .before .before .before .before
 
 denominator-requires : tie.Need-denominator-requires
-denominator-requires c κs =
-    let s = c .before .before .before .before .before .before .before in
-    axis-at (known-arrays _ (known s)) 0 (omega (arith, axes-few _ (known s))) .base
+denominator-requires c κs = let k = known (asked c) in axis-at (known-arrays _ k) 0 (omega (arith, axes-few _ k)) .base
 
 -- the numerator and the denominator that the code has are the plan's
 fraction : (c : tie.After-denominator) →
-    let a = c .before .before .before .before .before .before .before .before .before .before .args in
-    (c .before .before .numerator .result ≡ numeratorOf (planIn (a .s)) (a .n) 0) × (c .denominator .result ≡ denominatorOf (planIn (a .s)) 0)
-    × (numeratorOf (planIn (a .s)) (a .n) 0 < denominatorOf (planIn (a .s)) 0) × (denominatorOf (planIn (a .s)) 0 < 2 ^ 40)
+    let a = start (asked (c .before) .before) .args in
+    (c .before .before .before .before .numerator .result ≡ numeratorOf (planIn (a .t1)) (a .n) 0) × (c .denominator .result ≡ denominatorOf (planIn (a .t1)) 0)
+    × (numeratorOf (planIn (a .t1)) (a .n) 0 < denominatorOf (planIn (a .t1)) 0) × (denominatorOf (planIn (a .t1)) 0 < 2 ^ 40)
 fraction c =
-    let s = c .before .before .before .before .before .before .before .before in
-    let a = s .before .before .args in
-    let low : 0 < a .s .axes = axes-few (a .s) (known s) .0 in
-    let f = fraction-small (a .s) (known s) 0 low (a .n) in (
-      c .before .before .numerator .ensures ∙ known-numerator (a .s) (known s) 0 low (a .n),
-      c .denominator .ensures ∙ known-denominator (a .s) (known s) 0 low (a .n),
+    let k = known (asked (c .before)) in
+    let a = start (asked (c .before) .before) .args in
+    let low : 0 < a .t1 .axes = axes-few (a .t1) k .0 in
+    let f = fraction-small (a .t1) k 0 low (a .n) in (
+      c .before .before .before .before .numerator .ensures ∙ known-numerator (a .t1) k 0 low (a .n),
+      c .denominator .ensures ∙ known-denominator (a .t1) k 0 low (a .n),
       f .0,
       f .1,
     )
@@ -69,9 +66,8 @@ second-of-requires c κs = omega (arith, fraction c)
 returns-3 : tie.Need-returns-3
 unfolding slotOf
 returns-3 c =
-    let s = c .before .before .before .before .before .before .before .before .before in
     let f = fraction (c .before) in
-    rw (c .second-of .ensures, f .0, f .1) (sym (second-done _ _ (known s) (omega arith)))
+    rw (c .second-of .ensures, f .0, f .1) (sym (second-done _ _ (known (asked (c .before .before))) (omega arith)))
 
 pub second-spec : {M : Type 1} → statement M
 second-spec =
@@ -80,10 +76,7 @@ second-spec =
     is-genuine-requires
     returns
     returns-2
-    slice-aggregate-numerator
-    slice-aggregate-numerator-2
     numerator-requires
-    slice-aggregate-denominator
     denominator-requires
     second-of-requires
     returns-3)

@@ -2,8 +2,6 @@
 use mathlib.Core.Path.{sym, ap, _∙_}
 use native.Mathlib.Omega.{arith}
 use Rattle.bits.proofs.StreamLaws.{below-of}
-use Rattle.points.specs.Run.{runOf}
-use Rattle.points.proofs.RunLaws.{is-range}
 use Rattle.calls.specs.Calls.{moved}
 use Rattle.calls.proofs.CaseLaws.{read-refused, read-done}
 use Rattle.plan_calls.proofs.read.Statement.{statement}
@@ -22,7 +20,7 @@ returns c =
 
 make-requires : tie.Need-make-requires
 make-requires c κs =
-    (read-done _ _ (c .before .before .read-plan .ensures) (omega arith) (below-of 256 _ (λ i. omega (arith, c .before .before .before .shared-slice-known .given i))) .1, is-range (runOf 0 0) (omega arith))
+    read-done _ _ (c .before .before .read-plan .ensures) (omega arith) (below-of 256 _ (λ i. omega (arith, c .before .before .before .shared-slice-known .given i))) .1
 
 returns-2 : tie.Need-returns-2
 returns-2 c =

@@ -5,20 +5,24 @@ use Prim.Native.Nat.{_+_}
 use native.Mathlib.Omega.{arith}
 use borrow.Author.Needs.{needs}
 use lib.ListN.{length, take}
-use Rattle.state.specs.State.{genuine}
+use Rattle.state.specs.State.{runIn, genuine}
 use Rattle.calls.specs.Calls.{moved}
 use Rattle.calls.proofs.CaseLaws.{foreign-of, known-of, run-foreign, run-spent, run-no-room, run-clear, step-refused, step-done}
-use Rattle.calls.proofs.PointLaws.{axes-few, step-put, front-long, known-next}
+use Rattle.calls.proofs.PointLaws.{axes-few, step-put, front-long, known-arrays, known-run, known-next, next-of}
 use Rattle.run_calls.proofs.step.Statement.{statement}
 use Rattle.run_calls.proofs.step.Tie as tie
 
 is-genuine-requires : tie.Need-is-genuine-requires
-is-genuine-requires c κs = tt
+is-genuine-requires c κs = search needs
 
-foreign : (c : tie.Then1) → genuine (c .before .before .before .args .s) ≡ false
+-- the state is tested at the start
+abbrev start : tie.After-is-genuine → tie.Start
+start c = c .before .before .before .before .before .before .before .before .before .before .before
+
+foreign : (c : tie.Then1) → genuine (start (c .before) .args .t1) ≡ false
 foreign c = foreign-of _ _ (c .before .is-genuine .ensures) (c .if1 .taken)
 
-known : (c : tie.Else1) → genuine (c .before .before .before .args .s) ≡ true
+known : (c : tie.Else1) → genuine (start (c .before) .args .t1) ≡ true
 known c = known-of _ _ (c .before .is-genuine .ensures) (c .if1 .left)
 
 refused-requires : tie.Need-refused-requires
@@ -32,31 +36,37 @@ refused-requires-3 c κs = tt
 
 returns : tie.Need-returns
 returns c =
-    let a = c .before .before .before .before .args in
-    let w = step-refused (a .s) (a .out .now) 14 (run-foreign (a .s) (a .out .now) (foreign (c .before))) in (c .refused .ensures ∙ sym (w .0), sym (w .1))
+    let a = start (c .before .before) .args in
+    let w = step-refused (a .t1) (a .out .now) 14 (run-foreign (a .t1) (a .out .now) (foreign (c .before))) in (c .refused .ensures ∙ sym (w .0), sym (w .1))
 
 returns-2 : tie.Need-returns-2
 returns-2 c =
-    let a = c .before .before .before .before .before .before .args in
-    let w = step-refused (a .s) (a .out .now) 11 (run-spent (a .s) (a .out .now) (known (c .before .before .before)) (omega arith)) in (c .refused2 .ensures ∙ sym (w .0), sym (w .1))
+    let k = c .before .before in
+    let a = start (k .before) .args in
+    let w = step-refused (a .t1) (a .out .now) 11 (run-spent (a .t1) (a .out .now) (known k) (omega arith)) in (c .refused2 .ensures ∙ sym (w .0), sym (w .1))
 
 returns-3 : tie.Need-returns-3
 returns-3 c =
-    let a = c .before .before .before .before .before .before .before .args in
-    let w = step-refused (a .s) (a .out .now) 12 (run-no-room (a .s) (a .out .now) (known (c .before .before .before .before)) (omega arith) (omega arith)) in
+    let k = c .before .before .before in
+    let a = start (k .before) .args in
+    let w = step-refused (a .t1) (a .out .now) 12 (run-no-room (a .t1) (a .out .now) (known k) (omega arith) (omega arith)) in
     (c .refused3 .ensures ∙ sym (w .0), sym (w .1))
 
+-- where the point is written, the state is genuine
+abbrev clear : tie.After-store-arg → tie.Else1
+clear c = c .before .before .before .before
+
 -- the words that are stored are the point's, one an axis
-front : (c : tie.After-store-arg) → let a = c .before .before .before .before .before .before .before .before .args in length (take (a .s .axes) (a .s .numerators)) ≡ a .s .axes
+front : (c : tie.After-store-arg) → let a = start (clear c .before) .args in length (take (a .t1 .axes) (a .t1 .numerators)) ≡ a .t1 .axes
 front c =
-    let a = c .before .before .before .before .before .before .before .before .args in
-    let k = known (c .before .before .before .before .before) in
-    front-long (a .s) k (a .s .numerators) (a .s .start + a .s .taken) (known-next (a .s) k (omega arith))
+    let a = start (clear c .before) .args in
+    let k = known (clear c) in
+    front-long (a .t1) k (a .t1 .numerators) (a .t1 .start + a .t1 .taken) (known-next (a .t1) k (omega arith))
 
 array-share-prefix-x : tie.Need-array-share-prefix-x
 array-share-prefix-x c =
-    let long : length (c .before .before .before .before .before .before .before .before .args .s .numerators) ≡ 6 = search needs in
-    omega (arith, long, axes-few _ (known (c .before .before .before .before .before)))
+    let long : length (start (clear c .before) .args .t1 .numerators) ≡ 6 = search needs in
+    omega (arith, long, axes-few _ (known (clear c)))
 
 slice-aggregate-store : tie.Need-slice-aggregate-store
 slice-aggregate-store c = sym (front (c .before))
@@ -64,19 +74,31 @@ slice-aggregate-store c = sym (front (c .before))
 store-requires : tie.Need-store-requires
 store-requires c κs = omega (arith, front (c .before))
 
-advanced-requires : tie.Need-advanced-requires
-advanced-requires c κs = (known (c .before .before .before .before .before .before .before .before .before), omega arith)
+point-after-requires : tie.Need-point-after-requires
+point-after-requires c κs =
+    let k = known (clear (c .before .before .before .before .before .before .before .before .before)) in
+    (known-arrays _ k, omega (arith, known-run _ k), omega arith, known-next _ k (omega arith))
+
+add-with-run : tie.Need-add-with-run
+add-with-run c = omega (arith, known-run _ (known (clear (c .before .before .before .before .before .before .before .before .before .before))))
+
+with-run-requires : tie.Need-with-run-requires
+with-run-requires c κs =
+    let a = start (clear (c .before .before .before .before .before .before .before .before .before .before) .before) .args in
+    let k = known (clear (c .before .before .before .before .before .before .before .before .before .before)) in
+    (k, c .point-after .ensures ∙ next-of (a .t1) k (runIn (a .t1)) (a .t1 .taken + 1))
 
 same-length : tie.Need-same-length
 same-length c = search needs
 
 returns-4 : tie.Need-returns-4
 returns-4 c =
-    let s = c .before .before .before .before .before .before .before .before .before .before in
-    let a = s .before .before .before .args in
-    let w = step-done (a .s) (a .out .now) (run-clear (a .s) (a .out .now) (known s) (omega arith) (omega arith)) in (
-      ap (moved 0) (c .advanced .ensures) ∙ sym (w .0),
-      step-put (a .s) (known s) (a .out .now) _ _ (a .s .taken) (known-next (a .s) (known s) (omega arith)) (c .before .before .before .store .ensures) ∙ sym (w .1),
+    let p = c .before .before .before .before .before .before .before .before .before .before .before in
+    let k = known (clear p) in
+    let a = start (clear p .before) .args in
+    let w = step-done (a .t1) (a .out .now) (run-clear (a .t1) (a .out .now) k (omega arith) (omega arith)) in (
+      ap (moved 0) (c .with-run .ensures) ∙ sym (w .0),
+      step-put (a .t1) k (a .out .now) _ _ (a .t1 .taken) (known-next (a .t1) k (omega arith)) (c .before .before .before .before .before .before .before .before .before .store .ensures) ∙ sym (w .1),
     )
 
 pub step-spec : {M : Type 1} → statement M
@@ -93,6 +115,8 @@ step-spec =
     array-share-prefix-x
     slice-aggregate-store
     store-requires
-    advanced-requires
+    point-after-requires
+    add-with-run
+    with-run-requires
     same-length
     returns-4)

@@ -6,7 +6,6 @@ use lib.ListN.{length}
 use Rattle.plan.specs.Answer.{planAnswered}
 use Rattle.points.specs.Run.{runOf}
 use Rattle.points.specs.Arrays.{Arrays}
-use Rattle.points.proofs.RunLaws.{is-range}
 use Rattle.walk_text.specs.Text.{textOf}
 use Rattle.text.proofs.PutLaws.{put-then}
 use Rattle.walk_text.proofs.ArrayLaws.{made-arrays, made-axes, made-lines}
@@ -17,7 +16,7 @@ arrays : (c : tie.After-make) → let s = c .make .result in Arrays (s .family) 
 arrays c = made-arrays _ (c .before .before .pre .0 .valid) (runOf 0 0) 0 (c .make .result) (c .make .ensures)
 
 make-requires : tie.Need-make-requires
-make-requires c κs = (c .before .pre .0, is-range (runOf 0 0) (omega arith))
+make-requires c κs = c .before .pre .0
 
 slice-aggregate-put-head : tie.Need-slice-aggregate-put-head
 slice-aggregate-put-head c = search needs

@@ -17,16 +17,20 @@ use Rattle.window_count.proofs.count.Tie as tie
 is-genuine-requires : tie.Need-is-genuine-requires
 is-genuine-requires c κs = search needs
 
-foreign : (c : tie.Then1) → genuine (c .before .before .before .args .s) ≡ false
+-- the state is tested at the start
+abbrev start : tie.After-is-genuine → tie.Start
+start c = c .before .before .before .before .before .before .before .before .before .before .before
+
+foreign : (c : tie.Then1) → genuine (start (c .before) .args .t1) ≡ false
 foreign c = foreign-of _ _ (c .before .is-genuine .ensures) (c .if1 .taken)
 
-known : (c : tie.Else1) → genuine (c .before .before .before .args .s) ≡ true
+known : (c : tie.Else1) → genuine (start (c .before) .args .t1) ≡ true
 known c = known-of _ _ (c .before .is-genuine .ensures) (c .if1 .left)
 
-off : (c : tie.Then2) → isWindow (c .before .before .before .before .before .args .w .now) (c .before .before .before .before .before .args .s .axes) ≡ false
+off : (c : tie.Then2) → let a = start (c .before .before .before) .args in isWindow (a .w .now) (a .t1 .axes) ≡ false
 off c = foreign-of _ _ (c .before .is-window .ensures) (c .if2 .taken)
 
-fits : (c : tie.Else2) → isWindow (c .before .before .before .before .before .args .w .now) (c .before .before .before .before .before .args .s .axes) ≡ true
+fits : (c : tie.Else2) → let a = start (c .before .before .before) .args in isWindow (a .w .now) (a .t1 .axes) ≡ true
 fits c = known-of _ _ (c .before .is-window .ensures) (c .if2 .left)
 
 refused-requires : tie.Need-refused-requires
@@ -44,37 +48,31 @@ refused-requires-2 c κs = search needs
 returns-2 : tie.Need-returns-2
 returns-2 c = c .refused2 .ensures ∙ sym (count-off _ _ (known (c .before .before .before)) (off (c .before)))
 
-slice-aggregate-count-inside : tie.Need-slice-aggregate-count-inside
-slice-aggregate-count-inside c = search needs
-
-slice-aggregate-count-inside-2 : tie.Need-slice-aggregate-count-inside-2
-slice-aggregate-count-inside-2 c = search needs
+-- where the points are counted, the window is taken
+abbrev taken : tie.After-count-inside → tie.Else2
+taken c = c .before .before .before .before .before .before
 
 count-inside-requires : tie.Need-count-inside-requires
 count-inside-requires c κs =
-    let s = known (c .before .before .before .before .before .before) in
-    (known-arrays _ s, omega (arith, known-run _ s), window-room _ _ (fits (c .before .before .before .before)))
-
-slice-aggregate-bound : tie.Need-slice-aggregate-bound
-slice-aggregate-bound c = search needs
-
-slice-aggregate-bound-2 : tie.Need-slice-aggregate-bound-2
-slice-aggregate-bound-2 c = search needs
+    let w = c .before .before .before .before .before in
+    let k = known (w .before .before) in
+    (known-arrays _ k, omega (arith, known-run _ k), window-room _ _ (fits w))
 
 bound-requires : tie.Need-bound-requires
 bound-requires c κs =
-    let s = known (c .before .before .before .before .before .before .before .before .before) in
-    (known-arrays _ s, omega (arith, known-run _ s .0))
+    let k = known (taken (c .before .before .before .before .before) .before .before) in
+    (known-arrays _ k, omega (arith, known-run _ k .0))
 
 answer : {i i′ b b′ : ℕ} → i ≡ i′ → b ≡ b′ → counted 0 i b ≡ counted 0 i′ b′
 answer e f = λ j. counted 0 (e j) (f j)
 
 returns-3 : tie.Need-returns-3
 returns-3 c =
-    let s = known (c .before .before .before .before .before .before .before .before .before .before) in
-    let a = c .before .before .before .before .before .before .before .before .before .before .before .before .before .args in
-    answer (c .before .before .before .count-inside .ensures ∙ count-walked (a .s) (a .w .now) s) (c .bound .ensures ∙ bound-known (a .s) (a .w .now) s (a .s .count))
-    ∙ sym (count-done _ _ s (fits (c .before .before .before .before .before .before .before .before)))
+    let p = c .before .before .before .before .before .before in
+    let k = known (taken p .before .before) in
+    let a = start (taken p .before .before .before) .args in
+    answer (p .count-inside .ensures ∙ count-walked (a .t1) (a .w .now) k) (c .bound .ensures ∙ bound-known (a .t1) (a .w .now) k (a .t1 .count))
+    ∙ sym (count-done _ _ k (fits (taken p)))
 
 pub count-spec : {M : Type 1} → statement M
 count-spec =
@@ -86,10 +84,6 @@ count-spec =
     is-window-requires
     refused-requires-2
     returns-2
-    slice-aggregate-count-inside
-    slice-aggregate-count-inside-2
     count-inside-requires
-    slice-aggregate-bound
-    slice-aggregate-bound-2
     bound-requires
     returns-3)
