@@ -1,7 +1,7 @@
 use crate::{Refusal, AXES_MAX};
 use core::fmt;
 
-/// Why a text is no plan and no cut: what was expected at a byte of it, or the refusal of what it spells.
+/// Why a text is no plan, or no cut: what was expected at a byte of it, or the refusal of what it spells.
 ///
 /// ```
 /// use hisowake::{Expected, ParseError, Plan, Refusal};

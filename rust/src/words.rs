@@ -98,10 +98,9 @@ impl Draft {
     fn put_numbers(&mut self, degree: u32, mut at: usize, numbers: &str) -> Result<(), ParseError> {
         let mut words = numbers.split(',');
         for place in 1..=degree {
-            // where the word has ended
             let word = match words.next() {
                 Some(word) => word,
-                None => return expected(Expected::Number(place), at - 1),
+                None => return expected(Expected::Number(place), at - 1), // where the word ends
             };
             match decimal(word) {
                 Some(m) if m >> place == 0 => self.put(place as usize, m),
