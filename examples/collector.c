@@ -4,27 +4,18 @@
  *
  *   collector START COUNT
  */
+#include "denominators.h"
 #include "hisowake.h"
 
 #include <stdio.h>
-#include <stdlib.h>
 
 enum { AXES = 3, DAY = 86400, METERS = 250, CHANNELS = 8 };
 
 /* The plan: the permuted Halton sequence, bases 2, 3 and 5. Family 01, axes 011, then base minus 1 in 8 bits each and three zero bits. */
 static const uint8_t PLAN[] = {0x58, 0x08, 0x10, 0x20};
-static const uint64_t BASES[AXES] = {2, 3, 5};
 
 /* what each axis is divided into */
 static const uint64_t PARTS[AXES] = {DAY, METERS, CHANNELS};
-
-/* The denominator of an axis: the least power of its base that is 2^32 or more. */
-static uint64_t denominator(uint64_t base) {
-    uint64_t d = base;
-    while (d < 4294967296u)
-        d *= base;
-    return d;
-}
 
 /* A numerator out of 8 bytes, most significant first. */
 static uint64_t number_at(const uint8_t *bytes) {
@@ -43,17 +34,33 @@ static const char *reason(uint64_t code) {
 }
 
 /* The whole part of each axis's fraction times its parts. A numerator is below 2^40 and the parts are below 2^17, so that 64 bits hold it. */
-static void slots_of(const uint8_t *point, uint64_t *slots) {
+static void slots_of(const uint8_t *point, const uint64_t *denominators, uint64_t *slots) {
     for (int axis = 0; axis < AXES; axis++)
-        slots[axis] = number_at(point + 8 * axis) * PARTS[axis] / denominator(BASES[axis]);
+        slots[axis] = number_at(point + 8 * axis) * PARTS[axis] / denominators[axis];
+}
+
+/* Reads a decimal number below 2^64. Gives 0 for any other text. */
+static int read_number(const char *text, uint64_t *n) {
+    const char *at = text;
+    for (*n = 0; *at >= '0' && *at <= '9'; at++) {
+        uint64_t digit = (uint64_t)(*at - '0');
+        if (*n > (UINT64_MAX - digit) / 10)
+            return 0;
+        *n = 10 * *n + digit;
+    }
+    return at > text && *at == 0;
 }
 
 int main(int argc, char **argv) {
-    if (argc != 3) {
-        fprintf(stderr, "usage: collector START COUNT\n");
+    uint64_t start, count, denominators[HISOWAKE_AXES_MAX];
+    if (argc != 3 || !read_number(argv[1], &start) || !read_number(argv[2], &count)) {
+        fprintf(stderr, "usage: collector START COUNT, two decimal numbers below 2^64\n");
         return 2;
     }
-    uint64_t start = strtoull(argv[1], NULL, 10), count = strtoull(argv[2], NULL, 10);
+    if (denominators_of_plan(PLAN, sizeof PLAN, denominators) != AXES) {
+        fprintf(stderr, "the plan's bytes are no plan of %d axes\n", AXES);
+        return 1;
+    }
     for (uint64_t i = 0; i < count; i++) {
         uint8_t point[8 * AXES];
         uint64_t slots[AXES], index = start + i;
@@ -62,7 +69,7 @@ int main(int argc, char **argv) {
             printf("index %llu: refused %llu: %s\n", (unsigned long long)index, (unsigned long long)code, reason(code));
             return 1;
         }
-        slots_of(point, slots);
+        slots_of(point, denominators, slots);
         printf("index %llu: sleep until second %llu, call meter %llu on channel %llu\n", (unsigned long long)index,
                (unsigned long long)slots[0], (unsigned long long)slots[1], (unsigned long long)slots[2]);
     }

@@ -7,18 +7,23 @@ use crate::Refusal;
 mod c {
     #[link(name = "hisowake", kind = "static")]
     extern "C" {
-        pub fn hisowake_point(plan: *const u8, plan_len: usize, index: u64, out: *mut u8, out_len: usize) -> u64;
+        pub fn hisowake_point(plan: *const u8, plan_len: u64, index: u64, out: *mut u8, out_len: u64) -> u64;
         pub fn hisowake_window_count(
             plan: *const u8,
-            plan_len: usize,
+            plan_len: u64,
             start: u64,
             count: u64,
             window: *const u8,
-            window_len: usize,
+            window_len: u64,
             out: *mut u8,
-            out_len: usize,
+            out_len: u64,
         ) -> u64;
     }
+}
+
+/// A slice's length, as the C calls take it.
+fn len(bytes: &[u8]) -> u64 {
+    bytes.len() as u64
 }
 
 /// A code of the C calls: they answer 0 or the number of a refusal, and no other.
@@ -31,7 +36,9 @@ fn answer(code: u64) -> Result<(), Refusal> {
 
 /// Writes the point of an index to the front of `out`: the numerator of each axis, 8 bytes each.
 ///
-/// Refuses, in this order: 1 to 10 as the plan is read, 11, 13.
+/// # Errors
+///
+/// Refusals, in this order: 1 to 10 as the plan is read, 11, 13.
 ///
 /// ```
 /// let mut out = [0; 8];
@@ -41,13 +48,15 @@ fn answer(code: u64) -> Result<(), Refusal> {
 /// ```
 pub fn point(plan: &[u8], index: u64, out: &mut [u8]) -> Result<(), Refusal> {
     // SAFETY: slices are valid for their lengths, and `out` is borrowed alone.
-    answer(unsafe { c::hisowake_point(plan.as_ptr(), plan.len(), index, out.as_mut_ptr(), out.len()) })
+    answer(unsafe { c::hisowake_point(plan.as_ptr(), len(plan), index, out.as_mut_ptr(), len(out)) })
 }
 
 /// Writes S and the bound to the front of `out`, 8 bytes each. The run has the indexes start to start + count - 1, and the window u and then q
 /// for each axis, 4 bytes each.
 ///
-/// Refuses, in this order: 1 to 10 as the plan is read, 11, 14, 13.
+/// # Errors
+///
+/// Refusals, in this order: 1 to 10 as the plan is read, 11, 14, 13.
 ///
 /// ```
 /// let mut out = [0; 16];
@@ -59,6 +68,6 @@ pub fn point(plan: &[u8], index: u64, out: &mut [u8]) -> Result<(), Refusal> {
 pub fn window_count(plan: &[u8], start: u64, count: u64, window: &[u8], out: &mut [u8]) -> Result<(), Refusal> {
     // SAFETY: as `point`.
     answer(unsafe {
-        c::hisowake_window_count(plan.as_ptr(), plan.len(), start, count, window.as_ptr(), window.len(), out.as_mut_ptr(), out.len())
+        c::hisowake_window_count(plan.as_ptr(), len(plan), start, count, window.as_ptr(), len(window), out.as_mut_ptr(), len(out))
     })
 }

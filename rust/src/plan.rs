@@ -1,5 +1,6 @@
-use crate::{calls, Refusal};
-use std::ops::Deref;
+use crate::bits::field;
+use crate::{calls, Count, Cut, Point, Points, Refusal};
+use core::fmt;
 
 /// The most axes of a plan.
 pub const AXES_MAX: usize = 6;
@@ -7,7 +8,8 @@ pub const AXES_MAX: usize = 6;
 /// The most bytes of a plan.
 pub const PLAN_MAX: usize = 71;
 
-const SOBOL_DENOMINATOR: u64 = 1 << 32;
+/// How many indexes there are: they are 0 to 2^32 - 1. It is also the denominator of a Sobol axis.
+const INDEXES: u64 = 1 << 32;
 
 /// Which sequence a plan's points are of.
 ///
@@ -20,102 +22,37 @@ const SOBOL_DENOMINATOR: u64 = 1 << 32;
 #[derive(Clone, Copy, Debug, PartialEq, Eq, Hash)]
 pub enum Family {
     /// The Halton sequence.
-    Halton,
+    Halton = 0,
     /// The Halton sequence with Faure's digit permutations.
-    Permuted,
+    Permuted = 1,
     /// Sobol's sequence.
-    Sobol,
+    Sobol = 2,
 }
 
-/// An accepted plan.
+/// An accepted plan. It is made of bytes, by [`Plan::read`], or of words.
 ///
 /// ```
 /// use hisowake::{Plan, Refusal};
 ///
 /// let plan = Plan::read(&[0x89, 0xBF, 0x80])?; // Sobol, x^3 + x + 1 with 1, 3, 7
+/// assert_eq!(Ok(plan), "sobol 11:1,3,7".parse());
 /// assert_eq!(plan.axes(), 1);
 /// assert_eq!(*plan.point(4)?, [536870912]);
 /// assert_eq!(Plan::read(&[0xC8]), Err(Refusal::BadFamily));
 /// # Ok::<(), Refusal>(())
 /// ```
-#[derive(Clone, Copy, Debug, PartialEq, Eq)]
+#[derive(Clone, Copy, PartialEq, Eq, Hash)]
 pub struct Plan {
     bytes: [u8; PLAN_MAX],
     len: usize,
 }
 
-/// A point: the numerator of each axis, as a slice. Its denominators are the plan's.
-///
-/// ```
-/// use hisowake::{Plan, Refusal};
-///
-/// let point = Plan::read(&[0x10, 0x08, 0x10])?.point(1)?;
-/// assert_eq!(point.len(), 2);
-/// assert_eq!(point[0], 2147483648);
-/// # Ok::<(), Refusal>(())
-/// ```
-#[derive(Clone, Copy, Debug, PartialEq, Eq)]
-pub struct Point {
-    numerators: [u64; AXES_MAX],
-    axes: usize,
-}
-
-impl Deref for Point {
-    type Target = [u64];
-
-    fn deref(&self) -> &[u64] {
-        &self.numerators[..self.axes]
-    }
-}
-
-/// The cut u/q of an axis. A point is inside if its fraction is less than u/q on every axis; q is 1 to 2^24, and u is 0 to q.
-///
-/// ```
-/// assert_eq!(hisowake::Cut::new(1, 3), hisowake::Cut { u: 1, q: 3 });
-/// ```
-#[derive(Clone, Copy, Debug, PartialEq, Eq)]
-pub struct Cut {
-    /// The cut's numerator.
-    pub u: u32,
-    /// The cut's denominator.
-    pub q: u32,
-}
-
-impl Cut {
-    /// The cut u/q. Its range is examined when it is used.
-    ///
-    /// ```
-    /// use hisowake::{Cut, Plan, Refusal};
-    ///
-    /// let plan = Plan::read(&[0x08, 0x08])?;
-    /// assert_eq!(plan.count(0, 6, &[Cut::new(3, 2)]), Err(Refusal::BadWindow));
-    /// # Ok::<(), Refusal>(())
-    /// ```
-    pub const fn new(u: u32, q: u32) -> Cut {
-        Cut { u, q }
-    }
-}
-
-/// How many points of a run are inside a window, and how far that may lie from their share.
-///
-/// ```
-/// use hisowake::{Count, Cut, Plan, Refusal};
-///
-/// let plan = Plan::read(&[0x08, 0x08])?; // base 2
-/// assert_eq!(plan.count(0, 6, &[Cut::new(1, 2)])?, Count { inside: 3, bound: 4 });
-/// # Ok::<(), Refusal>(())
-/// ```
-#[derive(Clone, Copy, Debug, PartialEq, Eq)]
-pub struct Count {
-    /// How many of the run's points are inside.
-    pub inside: u64,
-    /// The distance between `inside` and the run's count times the product of all u/q is less than this. For Sobol it is 0, which claims
-    /// nothing.
-    pub bound: u64,
-}
-
 impl Plan {
-    /// Reads a plan. Refuses 1 to 10, field by field.
+    /// Reads a plan.
+    ///
+    /// # Errors
+    ///
+    /// Refusals 1 to 10, as the bytes are read field by field.
     ///
     /// ```
     /// use hisowake::{Plan, Refusal};
@@ -138,6 +75,7 @@ impl Plan {
     /// assert_eq!(Plan::read(&[0x08, 0x10])?.bytes(), [0x08, 0x10]);
     /// # Ok::<(), Refusal>(())
     /// ```
+    #[must_use]
     pub fn bytes(&self) -> &[u8] {
         &self.bytes[..self.len]
     }
@@ -150,8 +88,9 @@ impl Plan {
     /// assert_eq!(Plan::read(&[0x89, 0xBF, 0x80])?.family(), Family::Sobol);
     /// # Ok::<(), Refusal>(())
     /// ```
+    #[must_use]
     pub fn family(&self) -> Family {
-        match self.bytes[0] >> 6 {
+        match field(&self.bytes, 0, 2) {
             0 => Family::Halton,
             1 => Family::Permuted,
             _ => Family::Sobol,
@@ -166,8 +105,14 @@ impl Plan {
     /// assert_eq!(Plan::read(&[0x10, 0x08, 0x10])?.axes(), 2);
     /// # Ok::<(), Refusal>(())
     /// ```
+    #[must_use]
     pub fn axes(&self) -> usize {
-        (self.bytes[0] >> 3 & 7).into()
+        field(&self.bytes, 2, 3) as usize
+    }
+
+    /// The base of an axis of a Halton plan, plain or permuted.
+    pub(crate) fn base(&self, axis: usize) -> u32 {
+        field(&self.bytes, 5 + 8 * axis, 8) + 1
     }
 
     /// The denominator of an axis, the first axis being 0: 2^32 for Sobol, else the least power of the base that is 2^32 or more. None where
@@ -182,23 +127,27 @@ impl Plan {
     /// assert_eq!(plan.denominator(2), None);
     /// # Ok::<(), Refusal>(())
     /// ```
+    #[must_use]
     pub fn denominator(&self, axis: usize) -> Option<u64> {
         if axis >= self.axes() {
             return None;
         }
         if self.family() == Family::Sobol {
-            return Some(SOBOL_DENOMINATOR);
+            return Some(INDEXES);
         }
-        // 5 bits of family and axes, then 8 bits an axis: base minus 1
-        let base = u64::from((self.bytes[axis] & 7) << 5 | self.bytes[axis + 1] >> 3) + 1;
+        let base = u64::from(self.base(axis));
         let mut denominator = base;
-        while denominator < 1 << 32 {
+        while denominator < INDEXES {
             denominator *= base;
         }
         Some(denominator)
     }
 
-    /// The point of an index. Refuses 11 from 2^32 up.
+    /// The point of an index, 0 to 2^32 - 1.
+    ///
+    /// # Errors
+    ///
+    /// Refusal 11 from 2^32 up.
     ///
     /// ```
     /// use hisowake::{Plan, Refusal};
@@ -218,8 +167,33 @@ impl Plan {
         Ok(point)
     }
 
-    /// How many points of the indexes start to start + count - 1 are inside the window, which has a cut for each axis. Refuses, in this order:
-    /// 11 if start + count is above 2^32; 14.
+    /// The points of the indexes start to start + count - 1, in order; none if count is 0.
+    ///
+    /// # Errors
+    ///
+    /// Refusal 11 if start + count is above 2^32.
+    ///
+    /// ```
+    /// use hisowake::{Plan, Refusal};
+    ///
+    /// let plan = Plan::read(&[0x08, 0x08])?; // base 2
+    /// let seconds: Vec<u64> = plan.points(0, 4)?.map(|point| point[0] * 86400 >> 32).collect();
+    /// assert_eq!(seconds, [0, 43200, 21600, 64800]);
+    /// assert_eq!(plan.points(4294967295, 2), Err(Refusal::OutOfRange));
+    /// # Ok::<(), Refusal>(())
+    /// ```
+    pub fn points(&self, start: u64, count: u64) -> Result<Points, Refusal> {
+        match start.checked_add(count) {
+            Some(end) if end <= INDEXES => Ok(Points { plan: *self, next: start, end }),
+            _ => Err(Refusal::OutOfRange),
+        }
+    }
+
+    /// How many points of the indexes start to start + count - 1 are inside the window, which has a cut for each axis.
+    ///
+    /// # Errors
+    ///
+    /// In this order: refusal 11 if start + count is above 2^32; 14 if there is not a cut for each axis, or a cut is outside its range.
     ///
     /// ```
     /// use hisowake::{Cut, Plan, Refusal};
@@ -241,6 +215,30 @@ impl Plan {
         let mut out = [0; 16];
         calls::window_count(self.bytes(), start, count, &window[..len], &mut out)?;
         Ok(Count { inside: word(&out, 0), bound: word(&out, 1) })
+    }
+}
+
+/// As [`Plan::read`].
+///
+/// ```
+/// use hisowake::{Plan, Refusal};
+///
+/// assert_eq!(Plan::try_from(&[0x08, 0x10][..])?.to_string(), "halton 3");
+/// assert_eq!(Plan::try_from(&[][..]), Err(Refusal::Truncated));
+/// # Ok::<(), Refusal>(())
+/// ```
+impl TryFrom<&[u8]> for Plan {
+    type Error = Refusal;
+
+    fn try_from(bytes: &[u8]) -> Result<Plan, Refusal> {
+        Plan::read(bytes)
+    }
+}
+
+/// Writes the plan's words.
+impl fmt::Debug for Plan {
+    fn fmt(&self, f: &mut fmt::Formatter<'_>) -> fmt::Result {
+        write!(f, "Plan({self})")
     }
 }
 

@@ -1,4 +1,4 @@
-use std::fmt;
+use core::fmt;
 
 /// Why a call was turned down: the first of these, in the call's order, whose condition holds.
 ///
@@ -69,6 +69,7 @@ impl Refusal {
     /// ```
     /// assert_eq!(hisowake::Refusal::BadWindow.number(), 14);
     /// ```
+    #[must_use]
     pub const fn number(self) -> u64 {
         self as u64
     }
@@ -81,6 +82,7 @@ impl Refusal {
     /// assert_eq!(Refusal::from_number(11), Some(Refusal::OutOfRange));
     /// assert_eq!(Refusal::from_number(0), None);
     /// ```
+    #[must_use]
     pub fn from_number(number: u64) -> Option<Refusal> {
         Refusal::ALL.into_iter().find(|r| r.number() == number)
     }
@@ -110,4 +112,5 @@ impl fmt::Display for Refusal {
     }
 }
 
-impl std::error::Error for Refusal {}
+#[cfg(core_error)]
+impl core::error::Error for Refusal {}

@@ -1,5 +1,6 @@
 //! The typed calls: what a plan says of itself, its points and counts, and refusals by name.
 use hisowake::{calls, Count, Cut, Family, Plan, Refusal, AXES_MAX, PLAN_MAX};
+use std::collections::HashSet;
 
 const END: u64 = 4294967296;
 
@@ -43,6 +44,42 @@ fn points() {
         }
     }
     assert_eq!(plan(&[0x08, 0x08]).point(6).unwrap().len(), 1);
+}
+
+/// A run's points are those of its indexes, in order, and as many.
+#[test]
+fn runs() {
+    for bytes in [HALTON_6, PERMUTED_6, SOBOL_6] {
+        let p = plan(bytes);
+        for (start, count) in [(0, 0), (0, 1), (5, 1000), (END - 300, 300), (END - 1, 1), (END, 0)] {
+            let points = p.points(start, count).unwrap();
+            assert_eq!((points.len(), points.size_hint()), (count as usize, (count as usize, Some(count as usize))));
+            let expected: Vec<_> = (start..start + count).map(|index| p.point(index).unwrap()).collect();
+            assert_eq!(points.collect::<Vec<_>>(), expected);
+        }
+        for (start, count) in [(END, 1), (END - 1, 2), (END + 1, 0), (0, END + 1), (u64::MAX, 0), (u64::MAX, 1), (2, u64::MAX)] {
+            assert_eq!(p.points(start, count), Err(Refusal::OutOfRange));
+        }
+    }
+    let p = plan(HALTON_6);
+    let mut all = p.points(0, END).unwrap();
+    assert_eq!(all.len() as u64, END);
+    assert_eq!(all.nth(1000000), p.point(1000000).ok());
+    assert_eq!(all.len() as u64, END - 1000001);
+    assert_eq!(all.nth(all.len() - 1), p.point(END - 1).ok());
+    assert_eq!((all.len(), all.next(), all.nth(usize::MAX), all.next()), (0, None, None, None));
+}
+
+#[test]
+fn plans_as_keys() {
+    let bytes = [HALTON_6, PERMUTED_6, SOBOL_6, HALTON_6];
+    let plans: HashSet<_> = bytes.into_iter().map(|bytes| Plan::try_from(bytes).unwrap()).collect();
+    assert_eq!(plans.len(), 3);
+    assert!(plans.contains(&plan(SOBOL_6)));
+    let points: HashSet<_> = plan(HALTON_6).points(0, 1000).unwrap().collect();
+    assert_eq!(points.len(), 1000);
+    assert_eq!([Cut::new(1, 2), Cut::new(2, 4), Cut::new(1, 2)].into_iter().collect::<HashSet<_>>().len(), 2);
+    assert_eq!(Plan::try_from(&[0xC8][..]), Err(Refusal::BadFamily));
 }
 
 #[test]
@@ -112,6 +149,11 @@ fn refusals_by_number() {
             None => assert!(number == 0 || number == 12 || number > 14),
         }
     }
+}
+
+#[cfg(core_error)]
+#[test]
+fn refusals_are_errors() {
     let error: Box<dyn std::error::Error> = Refusal::OutOfRange.into();
     assert_eq!(error.to_string(), "refused 11: the index or the run's end is out of range");
 }

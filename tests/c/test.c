@@ -1,13 +1,13 @@
 // The calls of hisowake.h from C: reference points and counts, refusals and their order, that nothing beyond a buffer is read or written, and
 // the stack. Larger runs are compared with the reference. The argument `valgrind` leaves out the stack and makes the longest runs shorter.
 #define _DEFAULT_SOURCE
+#include "../../examples/denominators.h"
 #include "guard.h"
 #include "plans.h"
 #include "random.h"
+#include "stack.h"
 
-#include <ucontext.h>
-
-enum { OUT_MAX = 64, STACK = 65536, POINT_STACK = 8192, COUNT_STACK = 16384, PAINT = 0xA5, SEED = 20260517 };
+enum { OUT_MAX = 64, SEED = 20260517 };
 
 #define BYTES(...) (const uint8_t[]){__VA_ARGS__}, sizeof((const uint8_t[]){__VA_ARGS__})
 #define NUMERATORS(...) sizeof((const uint64_t[]){__VA_ARGS__}) / 8, (const uint64_t[]){__VA_ARGS__}
@@ -305,11 +305,51 @@ static void compare(const struct plan *p) {
     }
 }
 
+// ---- the header's sizes and plans, and the denominators
+
+_Static_assert(HISOWAKE_AXES_MAX == AXES_MAX && HISOWAKE_PLAN_MAX == PLAN_MAX && HISOWAKE_PLAN_MAX == sizeof LONGEST, "the longest plan");
+_Static_assert(HISOWAKE_POINT_MAX == 8 * AXES_MAX && HISOWAKE_WINDOW_MAX == WINDOW_MAX && HISOWAKE_COUNT_SIZE == 16, "the other sizes");
+
+static void header_plans(void) {
+    static struct plan spelled[] = {
+        {HALTON, 2, {{.base = 2}, {.base = 3}}},
+        {PERMUTED, 3, {{.base = 4}, {.base = 9}, {.base = 25}}},
+        {SOBOL, 2, {{.degree = 0}, {.degree = 3, .a = {0, 1}, .m = {1, 3, 7}}}},
+    };
+    static const uint8_t known[][4] = {{0x10, 0x08, 0x10}, {0x58, 0x18, 0x40, 0xC0}, {0x90, 0x1B, 0xF8}};
+    static const size_t lengths[] = {3, 4, 3};
+    for (int i = 0; i < 3; i++) {
+        uint8_t bytes[PLAN_MAX] = {0};
+        uint64_t x[6];
+        complete(&spelled[i]);
+        check(plan_bytes(&spelled[i], bytes) == lengths[i] && memcmp(bytes, known[i], lengths[i]) == 0, "a plan of the header", (uint64_t)i);
+        point_of(&spelled[i], 12345, x);
+        point("a plan of the header", known[i], lengths[i], 12345, HISOWAKE_POINT_MAX, 0, spelled[i].axes, x);
+    }
+}
+
+static void denominators(void) {
+    static const uint64_t known[][2] = {{2, 4294967296u},   {3, 10460353203u},    {5, 6103515625u},  {7, 13841287201u}, {13, 10604499373u},
+                                        {16, 4294967296u},  {255, 1078203909375u}, {256, 4294967296u}, {0, 0},            {1, 0}};
+    for (size_t i = 0; i < sizeof known / sizeof known[0]; i++)
+        check(denominator_of_base((uint32_t)known[i][0]) == known[i][1], "the denominator of a base", known[i][0]);
+    for (int i = 0; i < PLANS; i++)
+        for (int axes = 1; axes <= 6; axes++) {
+            struct plan p = last_axes(&plans[i], axes);
+            uint8_t plan[PLAN_MAX] = {0};
+            uint64_t found[HISOWAKE_AXES_MAX];
+            check(denominators_of_plan(plan, plan_bytes(&p, plan), found) == axes, "axes", (uint64_t)axes);
+            for (int axis = 0; axis < axes; axis++)
+                check(found[axis] == p.axis[axis].denominator, "the denominator of an axis", (uint64_t)axis);
+        }
+    uint64_t none[HISOWAKE_AXES_MAX] = {1, 2, 3, 4, 5, 6};
+    check(denominators_of_plan(NULL, 0, none) == 0 && denominators_of_plan(BYTES(0xC8), none) == 0 && none[0] == 1, "no plan", 0);
+}
+
 // ---- the stack
 
-static uint8_t stack[STACK], stack_plan[PLAN_MAX], stack_out[48];
+static uint8_t stack_plan[PLAN_MAX], stack_out[48];
 static size_t stack_plan_len, stack_window_len;
-static ucontext_t back, there;
 
 static void point_on_stack(void) { hisowake_point(stack_plan, stack_plan_len, LAST, stack_out, sizeof stack_out); }
 
@@ -317,21 +357,11 @@ static void count_on_stack(void) {
     hisowake_window_count(stack_plan, stack_plan_len, END - 1500, 1500, WINDOW, stack_window_len, stack_out, sizeof stack_out);
 }
 
-// Runs a call on a stack of this size, whose deepest 256 bytes and all below have to stay as they were. Gives how many bytes it took.
-static size_t stack_of(void (*call)(void), size_t size) {
-    uint8_t *deepest = stack + STACK - size;
-    memset(stack, PAINT, STACK);
-    getcontext(&there);
-    there.uc_stack.ss_sp = deepest;
-    there.uc_stack.ss_size = size;
-    there.uc_link = &back;
-    makecontext(&there, call, 0);
-    swapcontext(&back, &there);
-    size_t kept = 0;
-    while (kept < STACK && stack[kept] == PAINT)
-        kept++;
-    check(kept >= STACK - size + 256, "stack", size);
-    return STACK - kept;
+// What a call takes of a stack of this size, which has to be 256 bytes less at least.
+static size_t less_than(void (*call)(void), size_t size) {
+    size_t took = stack_of(call, size);
+    check(took + 256 <= size, "stack", took);
+    return took;
 }
 
 static void stacks(void) {
@@ -342,9 +372,9 @@ static void stacks(void) {
             memset(stack_plan, 0, sizeof stack_plan);
             stack_plan_len = plan_bytes(&p, stack_plan);
             stack_window_len = 8 * (size_t)axes;
-            size_t took = stack_of(point_on_stack, POINT_STACK);
+            size_t took = less_than(point_on_stack, POINT_STACK);
             point_most = took > point_most ? took : point_most;
-            took = stack_of(count_on_stack, COUNT_STACK);
+            took = less_than(count_on_stack, COUNT_STACK);
             count_most = took > count_most ? took : count_most;
         }
     printf("C: stack: the point %zu bytes, the count %zu bytes\n", point_most, count_most);
@@ -370,6 +400,8 @@ int main(int argc, char **argv) {
     refused_runs();
     refused_windows();
     reference_itself();
+    header_plans();
+    denominators();
     for (int i = 0; i < PLANS; i++)
         for (int axes = 1; axes <= 6; axes++) {
             struct plan p = last_axes(&plans[i], axes);

@@ -32,7 +32,7 @@ static void stray_read(const uint8_t *plan, size_t plan_len) {
         read_byte(plan - 1);
 }
 
-uint64_t hisowake_point(const uint8_t *plan, size_t plan_len, uint64_t index, uint8_t *out, size_t out_len) {
+uint64_t hisowake_point(const uint8_t *plan, uint64_t plan_len, uint64_t index, uint8_t *out, uint64_t out_len) {
     struct answer r = reference_point(plan, plan_len, index, out_len);
     stray_read(plan, plan_len);
     if (FAULT == WRONG_LAST_DIGIT && r.words == AXES_MAX && index > 1000000)
@@ -40,8 +40,8 @@ uint64_t hisowake_point(const uint8_t *plan, size_t plan_len, uint64_t index, ui
     return write_answer(r, out, out_len);
 }
 
-uint64_t hisowake_window_count(const uint8_t *plan, size_t plan_len, uint64_t start, uint64_t count, const uint8_t *window, size_t window_len,
-                               uint8_t *out, size_t out_len) {
+uint64_t hisowake_window_count(const uint8_t *plan, uint64_t plan_len, uint64_t start, uint64_t count, const uint8_t *window,
+                               uint64_t window_len, uint8_t *out, uint64_t out_len) {
     struct answer r = reference_count(plan, plan_len, start, count, window, window_len, out_len);
     stray_read(plan, plan_len);
     if (FAULT == ROOM_BEFORE_WINDOW && r.code == HISOWAKE_BAD_WINDOW && out_len < 16)

@@ -5,6 +5,8 @@
 
 #include "hisowake.h"
 
+#include <stddef.h>
+
 enum { AXES_MAX = 6, DEGREE_MAX = 12, PLAN_MAX = 71, WINDOW_MAX = 8 * AXES_MAX };
 
 enum family { HALTON, PERMUTED, SOBOL };

@@ -12,11 +12,11 @@ class Library:
 
     def __init__(self, path):
         calls = ctypes.CDLL(path)
-        size, word, data = ctypes.c_size_t, ctypes.c_uint64, ctypes.c_char_p
+        word, data = ctypes.c_uint64, ctypes.c_char_p
         self.c_point, self.c_count = calls.hisowake_point, calls.hisowake_window_count
         self.c_point.restype = self.c_count.restype = word
-        self.c_point.argtypes = (data, size, word, ctypes.c_void_p, size)
-        self.c_count.argtypes = (data, size, word, word, data, size, ctypes.c_void_p, size)
+        self.c_point.argtypes = (data, word, word, ctypes.c_void_p, word)
+        self.c_count.argtypes = (data, word, word, word, data, word, ctypes.c_void_p, word)
         self.out = ctypes.create_string_buffer(ROOM)
 
     def point(self, plan, index, room=48):
