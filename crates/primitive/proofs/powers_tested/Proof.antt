@@ -1,6 +1,6 @@
 -- `primitive::powers_tested` meets its contract: the tables are those of the squares, and the exponents are below 2^d. Assumes nothing.
-use mathlib.Core.Path.{ap}
-use Prim.Native.Nat.{ℕ, _-_}
+use mathlib.Core.Path.{_≡_, ap}
+use Prim.Native.Nat.{ℕ, _-_, _*_, _%_, _^_}
 use native.Mathlib.Omega.{arith}
 use Rattle.primitive.proofs.TopLaws.{top-is}
 use Rattle.primitive.proofs.FourLaws.{squaring}
@@ -65,22 +65,27 @@ part-four-end-3 c = omega arith
 four-requires-3 : tie.Need-four-requires-3
 four-requires-3 c κs = omega arith
 
+-- the first exponent
+whole : (s : tie.Start) → 1 * 2 ^ (s .args .d) % 2 ^ 64 - 1 ≡ 2 ^ (s .args .d) - 1
+whole s = ap (λ (n : ℕ). n - 1) (top-is (s .args .d) (s .pre .1))
+
 powers-of-x-requires : tie.Need-powers-of-x-requires
 powers-of-x-requires c κs =
     let h = c .before .before .before in
     let m = h .before .before .before in
     let l = m .before .before .before in
     let w = l .before .before .before in
-    let s = w .before in (
+    let s = w .before in
+    let below = s .pre .3 .below in (
       squaring _ _ (w .squares .result) _ _ _ (s .pre .0) (s .pre .1) (s .pre .2) (omega arith) (w .squares .ensures)
           (record { first = l .four .ensures; second = m .four2 .ensures; third = h .four3 .ensures }),
-      five-below _ _ _ (ap (λ (n : ℕ). n - 1) (top-is (s .args .d) (s .pre .1))) (s .pre .3),
+      five-below _ _ _ _ _ _ (whole s) (below _ (omega arith)) (below _ (omega arith)) (below _ (omega arith)) (below _ (omega arith)),
     )
 
 returns : tie.Need-returns
 returns c =
     let s = c .before .before .before .before .before .before .before .before .before .before .before .before .before .before in
-    five-powers _ _ _ (ap (λ (n : ℕ). n - 1) (top-is (s .args .d) (s .pre .1))) _ _ (c .powers-of-x .ensures)
+    five-powers _ _ _ _ _ (whole s) (c .powers-of-x .ensures)
 
 pub powers-tested-spec : {M : Type 1} → statement M
 powers-tested-spec =
