@@ -1,5 +1,5 @@
--- Linear combinations of words over two elements, by a number's digits: they are linear in the number, are one word at a power of two, and go
--- through the list from its front. Assumes nothing.
+-- Linear combinations of words over two elements, by a number's digits: they are linear in the number, are one word at a power of two, go through
+-- the list from its front, and split after any number of words. Assumes nothing.
 use mathlib.Core.Path.{_≡_, refl, sym, ap, ap₂, _∙_}
 use mathlib.Core.List.{List, [], _∷_}
 use mathlib.Core.Logic.{⊎-elim}
