@@ -1,14 +1,14 @@
--- Linear combinations of words over two elements, by a number's digits: they are linear in the number, are one word at a power of two, and go
--- through the list from its front. Assumes nothing.
+-- Linear combinations of words over two elements, by a number's digits: they are linear in the number, are one word at a power of two, go through
+-- the list from its front, and split after any number of words. Assumes nothing.
 use mathlib.Core.Path.{_≡_, refl, sym, ap, ap₂, _∙_}
 use mathlib.Core.List.{List, [], _∷_}
 use mathlib.Core.Logic.{⊎-elim}
 use Prim.Native.Nat.{ℕ, zero, suc, _+_, _*_, _/_, _%_, _^_, _≤_, _<_}
 use native.Mathlib.Omega.{arith}
-use native.Mathlib.Numerals.{add-one}
-use native.Mathlib.Nat.{not-suc-le-zero, le-of-suc-le-suc, pow-suc}
-use lib.ListN.{length, getD, drop}
-use lib.Pow.{pow-pos}
+use native.Mathlib.Numerals.{add-one, one-add}
+use native.Mathlib.Nat.{not-suc-le-zero, le-of-suc-le-suc, pow-suc, div-one}
+use lib.ListN.{length, getD, take, drop}
+use lib.Pow.{pow-pos, field, mod-mod-pow, shr-shr}
 use lib.Bits.{bitXor, bitAnd, and-mask, xor-zero-r, xor-self}
 use Rattle.binary.specs.Gf2.{times, combination}
 use Rattle.numbers.proofs.Cases.{even-or-odd}
@@ -111,3 +111,23 @@ combination-turn vs j g x y whole e h =
     ap₂ (λ (y k : ℕ). bitXor y (combination (drop k vs) (g / 2))) e (add-one j)
     ∙ xor-assoc x (times (g % 2) (getD vs j 0)) (combination (drop (suc j) vs) (g / 2))
     ∙ ap (bitXor x) (sym (combination-drop vs j g)) ∙ h
+
+-- ---- the first k words with the k lowest digits, and the other words with the others
+
+pub combination-split : (k : ℕ) (vs : List ℕ) (g : ℕ) → combination vs g ≡ bitXor (combination (take k vs) (g % 2 ^ k)) (combination (drop k vs) (g / 2 ^ k))
+unfolding combination
+combination-split zero vs g = sym (ap (combination vs) (div-one g))
+combination-split (suc k) [] g = refl
+combination-split (suc k) (v ∷ vs) g =
+    ap (bitXor (times (g % 2) v)) (combination-split k vs (g / 2))
+    ∙ sym (xor-assoc (times (g % 2) v) (combination (take k vs) (g / 2 % 2 ^ k)) (combination (drop k vs) (g / 2 / 2 ^ k)))
+    ∙ ap₂ bitXor (ap₂ (λ (c h : ℕ). bitXor (times c v) (combination (take k vs) h)) (sym low) (sym middle)) (ap (combination (drop k vs)) high)
+  where
+    low : g % 2 ^ suc k % 2 ≡ g % 2
+    low = ap (λ (n : ℕ). g % 2 ^ n % 2) (sym (add-one k)) ∙ mod-mod-pow g k 1
+
+    middle : g % 2 ^ suc k / 2 ≡ g / 2 % 2 ^ k
+    middle = ap (λ (n : ℕ). g % 2 ^ n / 2) (sym (add-one k)) ∙ field g k 1
+
+    high : g / 2 / 2 ^ k ≡ g / 2 ^ suc k
+    high = shr-shr g 1 k ∙ ap (λ (n : ℕ). g / 2 ^ n) (one-add k)

@@ -1,9 +1,10 @@
 -- `primitive::squares` meets its contract. The loop's invariant: the words passed are squares, and x is the next. Assumes nothing.
-use mathlib.Core.Path.{_≡_, refl, ap, _∙_}
+use mathlib.Core.Path.{_≡_, refl, ap, ap₂, _∙_}
 use mathlib.Core.List.{List}
 use Prim.Native.Nat.{ℕ, _+_, _*_, _-_, _^_, _≤_}
 use native.Mathlib.Omega.{arith}
 use lib.ListN.{getD, length, set, length-set}
+use Rattle.binary.specs.Polynomial.{timesX}
 use Rattle.binary.specs.Power.{powerOfX, Squares}
 use Rattle.binary.proofs.PolynomialLaws.{powerOfX-lt}
 use Rattle.binary.proofs.PowerLaws.{power-next}
@@ -48,7 +49,8 @@ between : (c : tie.After-times-x Inv-loop μ-loop) →
 between c =
     let s = c .before .before .before in
     let l = c .before .before .loop in
-    rw (top-is (s .args .d) (s .pre .1), l .inv .1) at (c .times-x .ensures) ∙ power-next (2 ^ (s .args .d)) (s .args .p) (l .k * 2)
+    c .times-x .ensures ∙ ap₂ (λ (t r : ℕ). timesX t (s .args .p) r) (top-is (s .args .d) (s .pre .1)) (l .inv .1)
+    ∙ power-next (2 ^ (s .args .d)) (s .args .p) (l .k * 2)
 
 times-x-requires-2 : tie.Need-times-x-requires-2 Inv-loop μ-loop
 times-x-requires-2 c κs =
