@@ -220,13 +220,13 @@ fn is_next<'a>(
 pub fn is_genuine<'a>(
     family: u64,
     axes: usize,
-    bases: &'a [u64],
-    polynomials: &'a [u64],
-    directions: &'a [u64],
+    bases: &'a [u64; 6],
+    polynomials: &'a [u64; 6],
+    directions: &'a [u64; 192],
     start: u64,
     count: u64,
     taken: u64,
-    numerators: &'a [u64],
+    numerators: &'a [u64; 6],
 ) -> bool
     requires { ⌜ Sized (stateOf family axes (now bases) (now polynomials) (now directions) start count taken (now numerators)) ⌝ }
     ensures { λ r. ⌜ r ≡ genuine (stateOf family axes (now (bases .entry)) (now (polynomials .entry)) (now (directions .entry)) start count taken (now (numerators .entry))) ⌝ }

@@ -22,13 +22,13 @@ lent c = let a = c .args in stateOf (a .family) (a .axes) (now (a .bases)) (now 
 
 -- where the run is permitted, where the number of axes is right, and where the plan is
 abbrev start : tie.Else1 → tie.Start
-start c = c .before .before .before .before .before .before
+start c = c .before .before
 
 abbrev ranged : tie.Else3 → tie.Else1
 ranged c = c .before .before
 
 abbrev few : tie.Else4 → tie.Else3
-few c = c .before .before
+few c = c .before .before .before .before .before
 
 run : (c : tie.Else1) → let a = start c .args in permitted (runOf (a .start) (a .count)) (a .taken) ≡ true
 run c = sym (c .before .is-permitted .ensures) ∙ not-false _ (c .if1 .left)
@@ -41,7 +41,7 @@ is-permitted-requires c κs = search needs
 
 returns : tie.Need-returns
 returns c =
-    decided (lent (c .before .before .before .before .before .before)) _
+    decided (lent (c .before .before)) _
     (no (λ f. true≢false (sym (f .run) ∙ sym (c .before .is-permitted .ensures) ∙ not-true _ (c .if1 .taken))))
 
 returns-2 : tie.Need-returns-2
@@ -52,23 +52,24 @@ returns-3 c = decided (lent (start (c .before .before))) _ (no (λ f. omega (ari
 
 is-plan-requires : tie.Need-is-plan-requires
 is-plan-requires c κs =
-    let k = start (ranged c) .pre in
+    let k = start (ranged (c .before .before .before)) .pre in
     (omega arith, k .bases, k .polynomials, k .directions)
 
 returns-4 : tie.Need-returns-4
 returns-4 c =
-    decided (lent (start (ranged (c .before .before)))) _
+    decided (lent (start (ranged (c .before .before .before .before .before)))) _
     (failed (c .before .is-plan .ensures) (not-true _ (c .if4 .taken)) (λ f. f .plan))
 
 is-next-requires : tie.Need-is-next-requires
 is-next-requires c κs =
-    let r = ranged (few c) in
+    let h = c .before .before .before in
+    let r = ranged (few h) in
     let k = start r .pre in
-    (fit-arrays _ _ _ _ _ (omega arith, omega arith) (k .bases) (k .polynomials) (k .directions) (held c), k .numerators, range-is _ (permitted-is _ _ (run r) .in-range))
+    (fit-arrays _ _ _ _ _ (omega arith, omega arith) (k .bases) (k .polynomials) (k .directions) (held h), k .numerators, range-is _ (permitted-is _ _ (run r) .in-range))
 
 returns-5 : tie.Need-returns-5
 returns-5 c =
-    let h = c .before in
+    let h = c .before .before .before .before in
     let r = ranged (few h) in
     decided (lent (start r)) _
     (rests (c .is-next .ensures)
