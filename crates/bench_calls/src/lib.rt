@@ -1,8 +1,6 @@
 // The calls on a state in loops, for the benchmark: each function reads its plan once and then makes one call so many times.
-use sampler::Moved;
 use sampler::Sampler;
 ghost use mathlib.Core.Path.{_≡_};
-ghost use Rattle.calls.specs.Calls.{stepSpec, stepBuf};
 ghost use Rattle.bench_calls.specs.Rounds.{openedState, blocksOf, jumpsOf, axisJumpsOf, secondsOf, stepsOf, countsOf};
 
 // The state of a plan with a run opened.
@@ -100,15 +98,6 @@ pub extern "C" fn bench_steps(plan: &[u8], start: u64, rounds: u64, out: &mut [u
     code
 }
 
-// A step in place: the sampler, a local here, is lent to it and holds the next state afterwards.
-fn wake(s: Sampler, point: &mut [u64]) -> Moved
-    ensures { λ r. ⌜ (r ≡ stepSpec s (now (point .entry))) × (now (point .exit) ≡ stepBuf s (now (point .entry))) ⌝ }
-{
-    let mut own = s;
-    let code = sampler::step_in_place(&mut own, point);
-    Moved { code, state: own }
-}
-
 // Takes `rounds` steps of a run in place: the state is lent to each step. Answers the last refusal's number or 0.
 #[no_mangle]
 pub extern "C" fn bench_steps_in_place(plan: &[u8], start: u64, rounds: u64, out: &mut [u64]) -> u64
@@ -118,7 +107,7 @@ pub extern "C" fn bench_steps_in_place(plan: &[u8], start: u64, rounds: u64, out
     let mut code = 0;
     let mut i = 0;
     while i < rounds {
-        let r = wake(s, out);
+        let r = waking::wake(s, out);
         code = r.code;
         s = r.state;
         i += 1;
