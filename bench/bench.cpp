@@ -186,7 +186,10 @@ static void axis_jumps() {
 }
 
 static void calls(const std::vector<Case> &all) {
-    printf("\n## One call: ns\n\n| plan | jump | step | step in place | C point | plain C jump, tables and reciprocals made beforehand | Boost | QuantLib |\n|---|---|---|---|---|---|---|---|\n");
+    std::vector<uint64_t> indexes(1000);
+    for (uint64_t i = 0; i < 1000; i++)
+        indexes[i] = 123456789 ^ i;
+    printf("\n## One call: ns\n\n| plan | jump | second | step | step in place | C point | plain C jump, tables and reciprocals made beforehand | Boost | QuantLib |\n|---|---|---|---|---|---|---|---|---|\n");
     for (const Case &c : all) {
         uint64_t out[6];
         uint8_t bytes[48];
@@ -196,6 +199,7 @@ static void calls(const std::vector<Case> &all) {
         size_t len = c.bytes.size();
         std::vector<Program> programs = {
             {"jump", 1000, [&] { bench_jumps(plan, len, 123456789, 1000, out, 6); }},
+            {"second", 1000, [&] { bench_seconds(plan, len, indexes.data(), indexes.size()); }},
             {"step", 1000, [&] { bench_steps(plan, len, 123456789, 1000, out, 6); }},
             {"step in place", 1000, [&] { bench_steps_in_place(plan, len, 123456789, 1000, out, 6); }},
             {"C point", 1000, jumps([&](uint32_t n) { hisowake_point(plan, len, n, bytes, 48); })},
