@@ -8,6 +8,7 @@ pub use input::text;
 pub use output::finish;
 pub use output::flush;
 pub use output::put;
+pub use output::put_between;
 pub use output::put_hex;
 pub use output::put_number;
 ghost use mathlib.Core.Path.{_≡_};

@@ -54,6 +54,13 @@ pub fn put_number(l: Lines, out: &mut [u8], n: u64) -> Lines {
     put(l, out, &digits[..k])
 }
 
+// Puts a number between two texts.
+pub fn put_between(l: Lines, out: &mut [u8], before: &[u8], n: u64, after: &[u8]) -> Lines {
+    let begun = put(l, out, before);
+    let numbered = put_number(begun, out, n);
+    put(numbered, out, after)
+}
+
 // Puts a byte as two hexadecimal digits.
 fn put_hex_byte(l: Lines, out: &mut [u8], b: u8) -> Lines {
     let mut digits = [0u8; 16];
