@@ -1,35 +1,82 @@
-// Lines of the output: words, numbers, and what each refusal of a plan means.
-use libc::STDOUT_FILENO;
+// Lines of errors: texts and numbers put out, and what each refusal of a plan means.
+use crate::Job;
 
-pub fn say(text: &[u8]) {
-    io::write_all(STDOUT_FILENO, text);
+// Puts a text.
+pub fn say(j: Job, out: &mut [u8], text: &[u8]) -> Job {
+    let mut next = j;
+    next.lines = lines::put(j.lines, out, text);
+    next
 }
 
-pub fn say_number(n: u64) {
-    io::print_decimal(STDOUT_FILENO, n);
+// Puts a number between two texts.
+pub fn say_between(j: Job, out: &mut [u8], before: &[u8], n: u64, after: &[u8]) -> Job {
+    let mut next = j;
+    next.lines = lines::put_between(j.lines, out, before, n, after);
+    next
 }
 
-// What the number of a refused reading means.
-fn meaning(code: u64) {
+// The place of the next error in a picture: a text of its own, below the earlier ones.
+fn place(j: Job, out: &mut [u8]) -> Job {
+    if !j.is_picture {
+        return j;
+    }
+    say_between(
+        j,
+        out,
+        b"<text x=\"0\" y=\"",
+        std::num::wrapping_add_u64(j.errors, 1),
+        b"em\">",
+    )
+}
+
+// Begins the line of an error, and counts it.
+pub fn fail(j: Job, out: &mut [u8]) -> Job {
+    let placed = place(j, out);
+    let mut next = say_between(placed, out, b"line ", j.line, b": ");
+    next.errors = std::num::wrapping_add_u64(j.errors, 1);
+    next
+}
+
+// Ends the line of an error with a text.
+pub fn end(j: Job, out: &mut [u8], text: &[u8]) -> Job {
+    let said = say(j, out, text);
+    if j.is_picture {
+        return say(said, out, b"</text>\n");
+    }
+    say(said, out, b"\n")
+}
+
+// Ends the line of an error with a text and a number.
+pub fn end_number(j: Job, out: &mut [u8], text: &[u8], n: u64) -> Job {
+    let said = say_between(j, out, text, n, b"");
+    end(said, out, b"")
+}
+
+// A whole error: what was expected.
+pub fn error(j: Job, out: &mut [u8], what: &[u8]) -> Job {
+    let begun = fail(j, out);
+    end(begun, out, what)
+}
+
+// Ends the error of a refused reading with what its number means.
+fn meaning(j: Job, out: &mut [u8], code: u64) -> Job {
     match code {
-        1 => say(b"the bytes end before a field's last bit"),
-        2 => say(b"the family is 3"),
-        3 => say(b"the number of axes is 0 or 7"),
-        4 => say(b"a base is 1"),
-        5 => say(b"a base is not coprime to an earlier one"),
-        6 => say(b"a degree is above 12"),
-        7 => say(b"a polynomial of degree 1 or more is not primitive"),
-        8 => say(b"a given m is even"),
-        9 => say(b"a polynomial of an earlier axis again"),
-        _ => say(b"a filling bit is 1, or a byte follows"),
+        1 => end(j, out, b"the bytes end before a field's last bit"),
+        2 => end(j, out, b"the family is 3"),
+        3 => end(j, out, b"the number of axes is 0 or 7"),
+        4 => end(j, out, b"a base is 1"),
+        5 => end(j, out, b"a base is not coprime to an earlier one"),
+        6 => end(j, out, b"a degree is above 12"),
+        7 => end(j, out, b"a polynomial of degree 1 or more is not primitive"),
+        8 => end(j, out, b"a given m is even"),
+        9 => end(j, out, b"a polynomial of an earlier axis again"),
+        _ => end(j, out, b"a filling bit is 1, or a byte follows"),
     }
 }
 
-// The rest of the line of a refused plan.
-pub fn refusal(code: u64) {
-    say(b"the plan is refused: ");
-    say_number(code);
-    say(b", ");
-    meaning(code);
-    say(b"\n");
+// The error of a refused plan.
+pub fn refusal(j: Job, out: &mut [u8], code: u64) -> Job {
+    let begun = fail(j, out);
+    let numbered = say_between(begun, out, b"the plan is refused: ", code, b", ");
+    meaning(numbered, out, code)
 }

@@ -1,82 +1,92 @@
-// A job text of a plan, a run and two axes, and the picture of the run's points on these axes, as SVG.
-mod svg;
-
+// A job text of a plan, a run, two axes and windows, and the picture of the run's points on these axes, with the windows as frames.
 use job::Job;
+use lines::Lines;
+use svg::Drawing;
+ghost use mathlib.Core.Path.{_≡_};
 ghost use Prim.Native.Nat.{_≤_};
 ghost use lib.ListN.{length};
 
-// What the lines so far ask for: the axes that are drawn, from 1, or 0 where they are not given.
+// What the lines so far ask for, and how many windows of the run are kept.
 struct Wanted {
     job: Job,
-    x: u64,
-    y: u64,
+    windows: usize,
 }
 
-// No axes are given yet.
-fn without_axes(j: Job) -> Wanted {
-    Wanted { job: j, x: 0, y: 0 }
+// No window is kept of a new plan or run.
+fn afresh(j: Job) -> Wanted
+    ensures { λ r. ⌜ r .windows ≡ 0 ⌝ }
+{
+    Wanted { job: j, windows: 0 }
 }
 
-// Whether a number is that of an axis.
-fn is_axis(x: u64, axes: usize) -> bool {
-    if x == 0 {
-        return false;
-    }
-    x <= (axes as u64)
-}
-
-// Not the numbers of two axes.
-fn no_axes(j: Job, axes: usize) -> Wanted {
-    let next = job::fail(j);
-    job::say(b"expected X and Y to be 1 to ");
-    job::say_number(axes as u64);
-    job::say(b", the plan's axes\n");
-    without_axes(next)
-}
-
-// A line `axes X Y`, from after its first word on.
-fn axes_line(j: Job, text: &[u8], from: usize) -> Wanted
+// A line `run START COUNT`, from after its first word on: a run of at most 100,000 points.
+fn run_line(j: Job, out: &mut [u8], text: &[u8], from: usize) -> Job
     requires { ⌜ from ≤ length (now text) ⌝ }
 {
-    if !j.has_plan {
-        return without_axes(job::error(j, b"expected a plan before the axes"));
+    let next = job::run_line(j, out, text, from);
+    if !next.has_run {
+        return next;
     }
-    if !j.has_run {
-        return without_axes(job::error(j, b"expected a run before the axes"));
+    let s = next.state;
+    if s.count <= 100000 {
+        return next;
     }
-    let s = j.state;
-    if 100000 < s.count {
-        return without_axes(job::error(j, b"expected a run of at most 100000 points to draw"));
+    let mut none = next;
+    none.has_run = false;
+    job::error(
+        none,
+        out,
+        b"expected a run of at most 100000 points to draw",
+    )
+}
+
+// Keeps a window in its place: its cuts, and its name with zeros after it.
+fn keep(i: usize, cuts: [u64; 12], name: &[u8], kept: &mut [u64], names: &mut [u8])
+    requires { ⌜ (i ≤ 31) × (384 ≤ length (now kept)) × (1024 ≤ length (now names)) × (length (now name) ≤ 32) ⌝ }
+{
+    bits::store(kept, 12 * i, &cuts);
+    let zeros = [0u8; 32];
+    text::put(names, 32 * i, &zeros);
+    text::put(names, 32 * i, name);
+}
+
+// A line of a window, from after its first word on: at most 32 of a run are drawn.
+fn window_line(
+    p: Wanted,
+    out: &mut [u8],
+    text: &[u8],
+    from: usize,
+    kept: &mut [u64],
+    names: &mut [u8],
+) -> Wanted
+    requires { ⌜ (p .windows ≤ 32) × (from ≤ length (now text)) × (384 ≤ length (now kept)) × (1024 ≤ length (now names)) ⌝ }
+    ensures { λ r. ⌜ r .windows ≤ 32 ⌝ }
+{
+    let windows = p.windows;
+    let r = window_lines::window_line(p.job, out, text, from);
+    let j = r.job;
+    if !r.is_good {
+        return Wanted { job: j, windows };
     }
-    let t = job::two_numbers(
-        j,
-        text,
-        from,
-        b"expected axes X Y, the numbers of two axes",
-        b"X",
-        b"Y",
-    );
-    if !t.is_good {
-        return without_axes(t.job);
+    if windows == 32 {
+        let next = job::error(j, out, b"expected at most 32 windows to draw");
+        return Wanted { job: next, windows };
     }
-    if !is_axis(t.first, s.axes) {
-        return no_axes(j, s.axes);
-    }
-    if !is_axis(t.second, s.axes) {
-        return no_axes(j, s.axes);
-    }
+    let start = r.start;
+    let end = r.end;
+    let cuts = r.cuts;
+    keep(windows, cuts, &text[start..end], kept, names);
     Wanted {
         job: j,
-        x: t.first,
-        y: t.second,
+        windows: windows + 1,
     }
 }
 
-// Does what a line's text asks for. A plan or a run forgets the axes.
-fn text_line(p: Wanted, text: &[u8]) -> Wanted
-    requires { ⌜ length (now text) ≤ 1024 ⌝ }
+// Does what a line's text asks for.
+fn text_line(p: Wanted, out: &mut [u8], text: &[u8], kept: &mut [u64], names: &mut [u8]) -> Wanted
+    requires { ⌜ (p .windows ≤ 32) × (length (now text) ≤ 1024) × (384 ≤ length (now kept)) × (1024 ≤ length (now names)) ⌝ }
+    ensures { λ r. ⌜ r .windows ≤ 32 ⌝ }
 {
-    let j = p.job;
     let w = words::find(text, 0);
     let start = w.start;
     let end = w.end;
@@ -85,64 +95,126 @@ fn text_line(p: Wanted, text: &[u8]) -> Wanted
         return p;
     }
     if check::same(key, b"plan") {
-        return without_axes(job::plan_line(j, text, end));
+        return afresh(job::plan_line(p.job, out, text, end));
     }
     if check::same(key, b"run") {
-        return without_axes(job::run_line(j, text, end));
+        return afresh(run_line(p.job, out, text, end));
     }
+    if check::same(key, b"window") {
+        return window_line(p, out, text, end, kept, names);
+    }
+    let windows = p.windows;
     if check::same(key, b"axes") {
-        return axes_line(j, text, end);
+        let next = job::axes_line(p.job, out, text, end);
+        return Wanted { job: next, windows };
     }
-    without_axes(job::error(j, b"expected plan, run, axes or #"))
+    let next = job::error(p.job, out, b"expected plan, run, window, axes or #");
+    Wanted { job: next, windows }
 }
 
-// The next line, of which `line` has the first 1,024 bytes.
-fn next_line(p: Wanted, line: &[u8], size: usize) -> Wanted
-    requires { ⌜ 1024 ≤ length (now line) ⌝ }
+// Reads the next line, and does what it asks for.
+fn line(
+    p: Wanted,
+    chunk: &mut [u8],
+    held: &mut [u8],
+    out: &mut [u8],
+    kept: &mut [u64],
+    names: &mut [u8],
+) -> Wanted
+    requires { ⌜ (p .windows ≤ 32) × (1 ≤ length (now chunk)) × (1024 ≤ length (now held)) × (384 ≤ length (now kept)) × (1024 ≤ length (now names)) ⌝ }
+    ensures { λ r. ⌜ r .windows ≤ 32 ⌝ }
 {
-    let j = job::next_line(p.job);
-    if 1024 < size {
-        return without_axes(job::too_long(j, line));
+    let j = job::read(p.job, chunk, held, out);
+    let l = j.lines;
+    let windows = p.windows;
+    if l.is_over {
+        return Wanted { job: j, windows };
     }
-    let end = job::text_end(&line[0..size]);
-    let next = Wanted {
-        job: j,
-        x: p.x,
-        y: p.y,
-    };
-    text_line(next, &line[0..end])
+    if 1024 < l.size {
+        let next = job::too_long(j, out, lines::text(l, held));
+        return Wanted { job: next, windows };
+    }
+    let now = Wanted { job: j, windows };
+    text_line(now, out, lines::text(l, held), kept, names)
 }
 
-// Draws what the lines ask for, if none was in error.
-fn draw(p: Wanted) {
-    let j = p.job;
+// Axes that the plan does not have.
+fn no_axes(j: Job, out: &mut [u8], axes: u64) -> Job {
+    let mut at = j;
+    at.line = j.axes_at;
+    let begun = job::fail(at, out);
+    job::end_number(
+        begun,
+        out,
+        b"expected X and Y to be at most the number of the plan's axes, ",
+        axes,
+    )
+}
+
+// The job at the input's end, and an error if no line was in error but something to draw is missing.
+fn checked(j: Job, out: &mut [u8]) -> Job {
     if j.errors != 0 {
-        return;
+        return j;
     }
-    if p.x == 0 {
-        job::error(
-            job::next_line(j),
-            b"expected axes X Y, after a plan and a run",
-        );
-        return;
+    if !j.has_run {
+        return job::error(j, out, b"expected a plan and a run to draw");
     }
-    svg::draw(j.state, p.x, p.y);
+    if j.x == 0 {
+        return job::error(j, out, b"expected axes X Y to draw");
+    }
+    let s = j.state;
+    let axes = s.axes as u64;
+    if axes < j.x {
+        return no_axes(j, out, axes);
+    }
+    if axes < j.y {
+        return no_axes(j, out, axes);
+    }
+    j
 }
 
-// The program `plot`: reads a plan, a run and two axes from standard input, and draws.
+// Draws what the lines ask for; if one was in error, nothing beside the errors.
+fn draw(j: Job, out: &mut [u8], windows: usize, kept: &[u64], names: &[u8]) -> Lines
+    requires { ⌜ (windows ≤ 32) × (384 ≤ length (now kept)) × (1024 ≤ length (now names)) ⌝ }
+{
+    let l = j.lines;
+    if j.errors != 0 {
+        return l;
+    }
+    let s = j.state;
+    let d = Drawing {
+        state: s,
+        x: j.x,
+        y: j.y,
+        is_time: j.is_time,
+        windows,
+    };
+    svg::draw(l, out, d, kept, names)
+}
+
+// At the input's end: draws, and ends the picture.
+fn end(p: Wanted, out: &mut [u8], kept: &[u64], names: &[u8])
+    requires { ⌜ (p .windows ≤ 32) × (384 ≤ length (now kept)) × (1024 ≤ length (now names)) ⌝ }
+{
+    let j = checked(p.job, out);
+    let drawn = draw(j, out, p.windows, kept, names);
+    lines::finish(svg::tail(drawn, out), out);
+}
+
+// The program `plot`: reads a plan, a run, two axes and windows from standard input, and draws.
 pub fn plot() {
     let mut chunk = io::buffer();
-    let mut line = [0u8; 1024];
-    let mut r = job::start();
-    let mut p = without_axes(job::new());
+    let mut held = [0u8; 1024];
+    let mut out = [0u8; 16384];
+    let mut kept = [0u64; 384];
+    let mut names = [0u8; 1024];
+    let mut j = job::new(true);
+    j.lines = svg::head(j.lines, &mut out);
+    let mut p = afresh(j);
     let mut turns = u64::MAX;
     while turns > 0 {
-        r = job::read_line(r, &mut chunk, &mut line);
-        if r.is_over {
-            break;
-        }
-        p = next_line(p, &line, r.size);
-        turns -= 1;
+        p = line(p, &mut chunk, &mut held, &mut out, &mut kept, &mut names);
+        turns = job::turns_left(p.job, turns);
     }
-    draw(p);
+    end(p, &mut out, &kept, &names);
 }

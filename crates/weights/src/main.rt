@@ -1,26 +1,71 @@
 // Reads plans, runs and windows as text from standard input, and prints each window's weight: the share of the run's points that are inside,
-// and how far it may lie from the window's volume.
+// the window's volume, and how far the one may lie from the other.
 mod row;
-mod window_line;
 
 use job::Job;
+use lines::Lines;
+use lines::put;
+use row::Row;
 ghost use Prim.Native.Nat.{_≤_};
 ghost use lib.ListN.{length};
 
 // What the columns are.
-fn head() {
-    job::say(
-        b"# A row for each window, with the number of its line: inside of count points are in the window.\n",
+fn head(l: Lines, out: &mut [u8]) -> Lines {
+    let first = put(
+        l,
+        out,
+        b"# A row for each window, with the number of its line: inside of count points are in the window.\n# share = inside / count, to the nearest in the ninth decimal, halves up. volume = the product of the window's cuts, to the nearest.\n",
     );
-    job::say(b"# share = inside / count, to the nearest in the ninth decimal, halves up.\n");
-    job::say(
-        b"# limit = bound / count, up in the ninth decimal: the share lies less than this from the window's volume.\n",
+    let second = put(
+        first,
+        out,
+        b"# difference = share - volume, as printed. limit = bound / count, up in the ninth decimal: the share lies less than this from the volume.\n",
     );
-    job::say(b"#  line      inside       count       bound        share           limit\n");
+    put(
+        second,
+        out,
+        b"#  line      inside       count                 bound        share       volume    difference                           limit  name\n",
+    )
+}
+
+// Counts a window, and prints its row.
+fn count(j: Job, out: &mut [u8], w: &[u64], name: &[u8]) -> Job {
+    let s = j.state;
+    let r = sampler::count(s, w);
+    if r.code != 0 {
+        let begun = job::fail(j, out);
+        return job::end_number(begun, out, b"the window is refused: ", r.code);
+    }
+    let row = Row {
+        line: j.line,
+        inside: r.inside,
+        count: s.count,
+        bound: r.bound,
+        claims: s.family != 2,
+        volume: volumes::volume(w, s.axes),
+    };
+    let mut next = j;
+    next.lines = row::put_row(j.lines, out, row, name);
+    next
+}
+
+// A line of a window, from after its first word on.
+fn window_line(j: Job, out: &mut [u8], text: &[u8], from: usize) -> Job
+    requires { ⌜ from ≤ length (now text) ⌝ }
+{
+    let r = window_lines::window_line(j, out, text, from);
+    if !r.is_good {
+        return r.job;
+    }
+    let start = r.start;
+    let name_end = r.end;
+    let cuts = r.cuts;
+    let end = 2 * r.axes;
+    count(j, out, &cuts[0..end], &text[start..name_end])
 }
 
 // Does what a line's text asks for.
-fn text_line(j: Job, text: &[u8]) -> Job
+fn text_line(j: Job, out: &mut [u8], text: &[u8]) -> Job
     requires { ⌜ length (now text) ≤ 1024 ⌝ }
 {
     let w = words::find(text, 0);
@@ -31,50 +76,51 @@ fn text_line(j: Job, text: &[u8]) -> Job
         return j;
     }
     if check::same(key, b"plan") {
-        return job::plan_line(j, text, end);
+        return job::plan_line(j, out, text, end);
     }
     if check::same(key, b"run") {
-        return job::run_line(j, text, end);
+        return job::run_line(j, out, text, end);
+    }
+    if check::same(key, b"axes") {
+        return job::axes_line(j, out, text, end);
     }
     if check::same(key, b"window") {
-        return window_line::line(j, text, end);
+        return window_line(j, out, text, end);
     }
-    job::error(j, b"expected plan, run, window or #")
+    job::error(j, out, b"expected plan, run, window, axes or #")
 }
 
-// The next line, of which `line` has the first 1,024 bytes.
-fn next_line(before: Job, line: &[u8], size: usize) -> Job
-    requires { ⌜ 1024 ≤ length (now line) ⌝ }
+// Reads the next line, and does what it asks for.
+fn line(before: Job, chunk: &mut [u8], kept: &mut [u8], out: &mut [u8]) -> Job
+    requires { ⌜ (1 ≤ length (now chunk)) × (1024 ≤ length (now kept)) ⌝ }
 {
-    let j = job::next_line(before);
-    if 1024 < size {
-        return job::too_long(j, line);
+    let j = job::read(before, chunk, kept, out);
+    let l = j.lines;
+    if l.is_over {
+        return j;
     }
-    let end = job::text_end(&line[0..size]);
-    text_line(j, &line[0..end])
+    if 1024 < l.size {
+        return job::too_long(j, out, lines::text(l, kept));
+    }
+    text_line(j, out, lines::text(l, kept))
 }
 
 // How many lines were in error: there is no other sign of it, as a program has no exit status.
-fn tail(j: Job) {
-    job::say(b"# errors: ");
-    job::say_number(j.errors);
-    job::say(b"\n");
+fn tail(j: Job, out: &mut [u8]) {
+    let l = lines::put_between(j.lines, out, b"# errors: ", j.errors, b"\n");
+    lines::finish(l, out);
 }
 
 fn main() {
-    head();
     let mut chunk = io::buffer();
-    let mut line = [0u8; 1024];
-    let mut r = job::start();
-    let mut j = job::new();
+    let mut kept = [0u8; 1024];
+    let mut out = [0u8; 16384];
+    let mut j = job::new(false);
+    j.lines = head(j.lines, &mut out);
     let mut turns = u64::MAX;
     while turns > 0 {
-        r = job::read_line(r, &mut chunk, &mut line);
-        if r.is_over {
-            break;
-        }
-        j = next_line(j, &line, r.size);
-        turns -= 1;
+        j = line(j, &mut chunk, &mut kept, &mut out);
+        turns = job::turns_left(j, turns);
     }
-    tail(j);
+    tail(j, &mut out);
 }

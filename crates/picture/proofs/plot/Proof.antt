@@ -1,4 +1,4 @@
--- What was read stays in the chunk, and the turns run down. Assumes nothing.
+-- The buffers keep their lengths, and the turns run down. Assumes nothing.
 use borrow.Author.Needs.{needs}
 use mathlib.Core.Path.{_≡_}
 use Prim.Native.Nat.{_≤_}
@@ -7,43 +7,49 @@ use Rattle.picture.proofs.plot.Statement.{statement}
 use Rattle.picture.proofs.plot.Tie as tie
 
 abbrev Inv-loop : tie.InvT-loop
-Inv-loop chunk₀ line₀ r₀ p₀ turns₀ chunk line r p turns = (length chunk ≡ 4096) × (length line ≡ 1024) × (r .filled ≤ 4096)
+Inv-loop chunk₀ held₀ out₀ kept₀ names₀ p₀ turns₀ chunk held out kept names p turns = (length chunk ≡ 4096) × (length held ≡ 1024) × (length out ≡ 16384) × (length kept ≡ 384) × (length names ≡ 1024) × (p .windows ≤ 32)
 
 abbrev μ-loop : tie.MeasureT-loop
-μ-loop chunk₀ line₀ r₀ p₀ turns₀ chunk line r p turns = turns
+μ-loop chunk₀ held₀ out₀ kept₀ names₀ p₀ turns₀ chunk held out kept names p turns = turns
 
 buffer-requires : tie.Need-buffer-requires Inv-loop μ-loop
 buffer-requires c κs = search needs
 
-start-requires : tie.Need-start-requires Inv-loop μ-loop
-start-requires c κs = search needs
-
 new-requires : tie.Need-new-requires Inv-loop μ-loop
 new-requires c κs = search needs
 
-without-axes-requires : tie.Need-without-axes-requires Inv-loop μ-loop
-without-axes-requires c κs = search needs
+slice-aggregate-head : tie.Need-slice-aggregate-head Inv-loop μ-loop
+slice-aggregate-head c = search needs
+
+head-requires : tie.Need-head-requires Inv-loop μ-loop
+head-requires c κs = search needs
+
+afresh-requires : tie.Need-afresh-requires Inv-loop μ-loop
+afresh-requires c κs = search needs
 
 loop-holds : tie.Need-loop-holds Inv-loop μ-loop
 loop-holds c = search needs
 
-slice-aggregate-read-line : tie.Need-slice-aggregate-read-line Inv-loop μ-loop
-slice-aggregate-read-line c = search needs
+slice-aggregate-line : tie.Need-slice-aggregate-line Inv-loop μ-loop
+slice-aggregate-line c = search needs
 
-slice-aggregate-read-line-2 : tie.Need-slice-aggregate-read-line-2 Inv-loop μ-loop
-slice-aggregate-read-line-2 c = search needs
+slice-aggregate-line-2 : tie.Need-slice-aggregate-line-2 Inv-loop μ-loop
+slice-aggregate-line-2 c = search needs
 
-read-line-requires : tie.Need-read-line-requires Inv-loop μ-loop
-read-line-requires c κs = search needs
+slice-aggregate-line-3 : tie.Need-slice-aggregate-line-3 Inv-loop μ-loop
+slice-aggregate-line-3 c = search needs
 
-slice-aggregate-next-line : tie.Need-slice-aggregate-next-line Inv-loop μ-loop
-slice-aggregate-next-line c = search needs
+slice-aggregate-line-4 : tie.Need-slice-aggregate-line-4 Inv-loop μ-loop
+slice-aggregate-line-4 c = search needs
 
-next-line-requires : tie.Need-next-line-requires Inv-loop μ-loop
-next-line-requires c κs = search needs
+slice-aggregate-line-5 : tie.Need-slice-aggregate-line-5 Inv-loop μ-loop
+slice-aggregate-line-5 c = search needs
 
-sub-turns : tie.Need-sub-turns Inv-loop μ-loop
-sub-turns c = search needs
+line-requires : tie.Need-line-requires Inv-loop μ-loop
+line-requires c κs = search needs
+
+turns-left-requires : tie.Need-turns-left-requires Inv-loop μ-loop
+turns-left-requires c κs = search needs
 
 loop-less : tie.Need-loop-less Inv-loop μ-loop
 loop-less c = search needs
@@ -51,8 +57,17 @@ loop-less c = search needs
 loop-again : tie.Need-loop-again Inv-loop μ-loop
 loop-again c = search needs
 
-draw-requires : tie.Need-draw-requires Inv-loop μ-loop
-draw-requires c κs = search needs
+slice-aggregate-end : tie.Need-slice-aggregate-end Inv-loop μ-loop
+slice-aggregate-end c = search needs
+
+slice-aggregate-end-2 : tie.Need-slice-aggregate-end-2 Inv-loop μ-loop
+slice-aggregate-end-2 c = search needs
+
+slice-aggregate-end-3 : tie.Need-slice-aggregate-end-3 Inv-loop μ-loop
+slice-aggregate-end-3 c = search needs
+
+end-requires : tie.Need-end-requires Inv-loop μ-loop
+end-requires c κs = search needs
 
 returns : tie.Need-returns Inv-loop μ-loop
 returns c = search needs
@@ -64,17 +79,22 @@ plot-spec =
     Inv-loop
     μ-loop
     buffer-requires
-    start-requires
     new-requires
-    without-axes-requires
+    slice-aggregate-head
+    head-requires
+    afresh-requires
     loop-holds
-    slice-aggregate-read-line
-    slice-aggregate-read-line-2
-    read-line-requires
-    slice-aggregate-next-line
-    next-line-requires
-    sub-turns
+    slice-aggregate-line
+    slice-aggregate-line-2
+    slice-aggregate-line-3
+    slice-aggregate-line-4
+    slice-aggregate-line-5
+    line-requires
+    turns-left-requires
     loop-less
     loop-again
-    draw-requires
+    slice-aggregate-end
+    slice-aggregate-end-2
+    slice-aggregate-end-3
+    end-requires
     returns)

@@ -5,18 +5,18 @@ use borrow.Author.Needs.{needs}
 use Rattle.shares.proofs.share.Statement.{statement}
 use Rattle.shares.proofs.share.Tie as tie
 
-mul-near : tie.Need-mul-near
-mul-near c = search needs
+mul-result : tie.Need-mul-result
+mul-result c = search needs
 
-add-near : tie.Need-add-near
-add-near c = search needs
+add-result : tie.Need-add-result
+add-result c = search needs
 
-div-near : tie.Need-div-near
-div-near c = search needs
+div-result : tie.Need-div-result
+div-result c = search needs
 
 returns : tie.Need-returns
 unfolding shareOf
 returns c = refl
 
 pub share-spec : {M : Type 1} → statement M
-share-spec = tie.close (tie.spec mul-near add-near div-near returns)
+share-spec = tie.close (tie.spec mul-result add-result div-result returns)

@@ -1,0 +1,224 @@
+// The names around the picture: the plan and the run, the axes, and the numbers along them.
+use crate::Drawing;
+use lines::Lines;
+use lines::put;
+use lines::put_between;
+use sampler::Sampler;
+ghost use Prim.Native.Nat.{_<_, _≤_};
+
+// ---- the plan and the run
+
+// A base, if the plan has one there.
+fn base(l: Lines, out: &mut [u8], is_there: bool, b: u64) -> Lines {
+    if is_there {
+        return put_between(l, out, b" ", b, b"");
+    }
+    l
+}
+
+// The bases of a plan.
+fn bases(l: Lines, out: &mut [u8], s: Sampler) -> Lines {
+    let all = s.bases;
+    let mut next = l;
+    let mut i = 0;
+    while i < 6 {
+        next = base(next, out, i < s.axes, all[i]);
+        i += 1;
+    }
+    next
+}
+
+// The family, and the bases if it has any.
+fn plan(l: Lines, out: &mut [u8], s: Sampler) -> Lines {
+    let family = s.family;
+    match family {
+        0 => bases(put(l, out, b"Halton, bases"), out, s),
+        1 => bases(put(l, out, b"Permuted Halton, bases"), out, s),
+        _ => put(l, out, b"Sobol"),
+    }
+}
+
+// The run.
+fn run(l: Lines, out: &mut [u8], s: Sampler) -> Lines {
+    let start = put_between(l, out, b"start ", s.start, b", count ");
+    lines::put_number(start, out, s.count)
+}
+
+// The plan and the run, as the picture's title.
+pub fn title(l: Lines, out: &mut [u8], s: Sampler) -> Lines {
+    let begun = plan(put(l, out, b"<title>"), out, s);
+    let parted = put(begun, out, b", ");
+    end_title(parted, out, s)
+}
+
+// The run, and the title's end.
+fn end_title(l: Lines, out: &mut [u8], s: Sampler) -> Lines {
+    let named = run(l, out, s);
+    put(named, out, b"</title>\n")
+}
+
+// The plan above the picture.
+fn plan_text(l: Lines, out: &mut [u8], s: Sampler) -> Lines {
+    let begun = put(
+        l,
+        out,
+        b"<text x=\"500\" y=\"-48\" font-size=\"34\" text-anchor=\"middle\" fill=\"#222\">",
+    );
+    let named = plan(begun, out, s);
+    put(named, out, b"</text>\n")
+}
+
+// The run above the picture.
+fn run_text(l: Lines, out: &mut [u8], s: Sampler) -> Lines {
+    let begun = put(
+        l,
+        out,
+        b"<text x=\"500\" y=\"-14\" text-anchor=\"middle\" fill=\"#222\">",
+    );
+    let named = run(begun, out, s);
+    put(named, out, b"</text>\n")
+}
+
+// ---- the axes
+
+// A power of x.
+fn power(l: Lines, out: &mut [u8], k: u64) -> Lines {
+    match k {
+        0 => put(l, out, b"1"),
+        1 => put(l, out, b"x"),
+        _ => put_between(l, out, b"x^", k, b""),
+    }
+}
+
+// The term x^k of a polynomial that is `high` from there on, if it has it; a sign before it if it is not the first.
+fn term(l: Lines, out: &mut [u8], high: u64, k: u64) -> Lines {
+    if high % 2 == 0 {
+        return l;
+    }
+    if high == 1 {
+        return power(l, out, k);
+    }
+    power(put(l, out, b" + "), out, k)
+}
+
+// A polynomial of degree 12 at most, the highest power first.
+fn polynomial(l: Lines, out: &mut [u8], p: u64) -> Lines {
+    let mut next = l;
+    let mut k: u64 = 13;
+    while k > 0 {
+        k -= 1;
+        next = term(next, out, p >> k, k);
+    }
+    next
+}
+
+// An axis's polynomial; the binary axis, whose polynomial is 1, has none.
+fn sobol(l: Lines, out: &mut [u8], p: u64) -> Lines {
+    let begun = put(l, out, b"Sobol, ");
+    if p == 1 {
+        return put(begun, out, b"binary");
+    }
+    polynomial(begun, out, p)
+}
+
+// The word at a place of six, 0 beyond them.
+pub fn sixth(words: [u64; 6], i: u64) -> u64 {
+    if i < 6 { words[i as usize] } else { 0 }
+}
+
+// The name of an axis, from 1: its base, or its polynomial.
+fn axis(l: Lines, out: &mut [u8], s: Sampler, x: u64) -> Lines {
+    let i = std::num::wrapping_sub_u64(x, 1);
+    let begun = put_between(l, out, b"axis ", x, b" (");
+    if s.family == 2 {
+        let polynomials = s.polynomials;
+        let named = sobol(begun, out, sixth(polynomials, i));
+        return put(named, out, b")</text>\n");
+    }
+    let all = s.bases;
+    put_between(begun, out, b"base ", sixth(all, i), b")</text>\n")
+}
+
+// The name of the first axis drawn.
+fn axis_below(l: Lines, out: &mut [u8], d: Drawing) -> Lines {
+    let s = d.state;
+    let begun = put(
+        l,
+        out,
+        b"<g font-size=\"32\" text-anchor=\"middle\" fill=\"#222\">\n<text x=\"500\" y=\"1084\">",
+    );
+    axis(begun, out, s, d.x)
+}
+
+// The name of the second axis drawn.
+fn axis_beside(l: Lines, out: &mut [u8], d: Drawing) -> Lines {
+    let s = d.state;
+    let begun = put(
+        l,
+        out,
+        b"<text transform=\"translate(-88 500) rotate(-90)\">",
+    );
+    let named = axis(begun, out, s, d.y);
+    put(named, out, b"</g>\n")
+}
+
+// ---- the numbers along the axes
+
+// Along the first axis drawn: quarters, or times of day.
+fn along(l: Lines, out: &mut [u8], is_time: bool) -> Lines {
+    let begun = put(l, out, b"<g fill=\"#444\" text-anchor=\"middle\">");
+    if is_time {
+        return put(
+            begun,
+            out,
+            b"<text x=\"0\" y=\"1034\">0:00</text><text x=\"250\" y=\"1034\">6:00</text><text x=\"500\" y=\"1034\">12:00</text><text x=\"750\" y=\"1034\">18:00</text><text x=\"1000\" y=\"1034\">24:00</text></g>\n",
+        );
+    }
+    put(
+        begun,
+        out,
+        b"<text x=\"0\" y=\"1034\">0</text><text x=\"250\" y=\"1034\">1/4</text><text x=\"500\" y=\"1034\">1/2</text><text x=\"750\" y=\"1034\">3/4</text><text x=\"1000\" y=\"1034\">1</text></g>\n",
+    )
+}
+
+// Beside the second axis drawn: the same.
+fn beside(l: Lines, out: &mut [u8], is_time: bool) -> Lines {
+    let begun = put(l, out, b"<g fill=\"#444\" text-anchor=\"end\">");
+    if is_time {
+        return put(
+            begun,
+            out,
+            b"<text x=\"-8\" y=\"1009\">0:00</text><text x=\"-8\" y=\"759\">6:00</text><text x=\"-8\" y=\"509\">12:00</text><text x=\"-8\" y=\"259\">18:00</text><text x=\"-8\" y=\"9\">24:00</text></g>\n",
+        );
+    }
+    put(
+        begun,
+        out,
+        b"<text x=\"-12\" y=\"1009\">0</text><text x=\"-12\" y=\"759\">1/4</text><text x=\"-12\" y=\"509\">1/2</text><text x=\"-12\" y=\"259\">3/4</text><text x=\"-12\" y=\"9\">1</text></g>\n",
+    )
+}
+
+// Whether the time of day goes along an axis.
+fn has_time(d: Drawing, axis: u64) -> bool {
+    if axis == 1 { d.is_time } else { false }
+}
+
+// The numbers along both axes.
+fn numbers(l: Lines, out: &mut [u8], d: Drawing) -> Lines {
+    let first = along(l, out, has_time(d, d.x));
+    beside(first, out, has_time(d, d.y))
+}
+
+// The names above, below and beside the picture.
+fn texts(l: Lines, out: &mut [u8], d: Drawing) -> Lines {
+    let planned = plan_text(l, out, d.state);
+    let headed = run_text(planned, out, d.state);
+    let below = axis_below(headed, out, d);
+    axis_beside(below, out, d)
+}
+
+// All that stands around the picture.
+pub fn around(l: Lines, out: &mut [u8], d: Drawing) -> Lines {
+    let numbered = numbers(l, out, d);
+    texts(numbered, out, d)
+}

@@ -1,0 +1,124 @@
+// The fractions of a line.
+use job::Job;
+use words::Number;
+ghost use mathlib.Core.Path.{_≡_};
+ghost use Prim.Native.Nat.{_≤_};
+ghost use lib.ListN.{length};
+
+// What is wrong with a fraction: 0 is nothing.
+const NOT_A_FRACTION: u64 = 1;
+
+const TOO_LARGE: u64 = 2;
+
+const BAD_DENOMINATOR: u64 = 3;
+
+const ABOVE_ONE: u64 = 4;
+
+// A cut: u of q, or what is wrong with it.
+struct Fraction {
+    wrong: u64,
+    u: u64,
+    q: u64,
+}
+
+// The cuts of a line: what is wrong with the last one, how many there are, and u and q of each in turn.
+pub struct Cuts {
+    pub wrong: u64,
+    pub axes: usize,
+    pub cuts: [u64; 12],
+}
+
+// No fraction, and why.
+fn wrong(why: u64) -> Fraction {
+    Fraction {
+        wrong: why,
+        u: 0,
+        q: 0,
+    }
+}
+
+// A fraction in the range that a window takes.
+fn in_range(u: u64, q: u64) -> Fraction {
+    if q == 0 {
+        return wrong(BAD_DENOMINATOR);
+    }
+    if 16777216 < q {
+        return wrong(BAD_DENOMINATOR);
+    }
+    if q < u {
+        return wrong(ABOVE_ONE);
+    }
+    Fraction { wrong: 0, u, q }
+}
+
+// What is wrong with a number that is none.
+fn no_value(n: Number) -> u64 {
+    match n {
+        Number::TooLarge => TOO_LARGE,
+        _ => NOT_A_FRACTION,
+    }
+}
+
+// The fraction that a word spells.
+fn read_fraction(word: &[u8]) -> Fraction {
+    let slash = bytes::scan::find(word, 0, word.len(), b'/');
+    if slash == word.len() {
+        return wrong(NOT_A_FRACTION);
+    }
+    let after = slash + 1;
+    let above = words::decimal(&word[0..slash]);
+    let Number::Value(u) = above else {
+        return wrong(no_value(above));
+    };
+    let below = words::decimal(&word[after..]);
+    let Number::Value(q) = below else {
+        return wrong(no_value(below));
+    };
+    in_range(u, q)
+}
+
+// The first six fractions from `from` on, or as many as are good and the first that is not.
+pub fn read_cuts(line: &[u8], from: usize) -> Cuts
+    requires { ⌜ from ≤ length (now line) ⌝ }
+    ensures { λ r. ⌜ (r .axes ≤ 6) × (length (r .cuts) ≡ 12) ⌝ }
+{
+    let mut cuts = [0u64; 12];
+    let mut wrong: u64 = 0;
+    let mut at = from;
+    let mut i = 0;
+    while i < 6 && wrong == 0 {
+        let w = words::find(line, at);
+        let start = w.start;
+        let end = w.end;
+        if start == end {
+            break;
+        }
+        let f = read_fraction(&line[start..end]);
+        wrong = f.wrong;
+        cuts[2 * i] = f.u;
+        cuts[2 * i + 1] = f.q;
+        at = end;
+        i += 1;
+    }
+    Cuts {
+        wrong,
+        axes: i,
+        cuts,
+    }
+}
+
+// Says what is wrong with the fraction of an axis.
+pub fn bad_fraction(j: Job, out: &mut [u8], axis: usize, wrong: u64) -> Job {
+    let begun = job::fail(j, out);
+    let said = job::say_between(begun, out, b"axis ", axis as u64, b": ");
+    match wrong {
+        TOO_LARGE => job::end(
+            said,
+            out,
+            b"expected U and Q to be at most 18446744073709551615",
+        ),
+        BAD_DENOMINATOR => job::end(said, out, b"the denominator must be 1 to 16777216"),
+        ABOVE_ONE => job::end(said, out, b"the numerator must be at most the denominator"),
+        _ => job::end(said, out, b"expected a fraction U/Q of two decimal numbers"),
+    }
+}

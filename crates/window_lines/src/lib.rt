@@ -1,0 +1,152 @@
+// A line `window U/Q U/Q ..`, with one fraction for each axis, or `window NAME = U/Q U/Q ..`: the window's cuts and its name, or what is wrong with
+// them.
+mod cuts;
+
+use cuts::Cuts;
+use cuts::read_cuts;
+use job::Job;
+ghost use mathlib.Core.Path.{_≡_};
+ghost use Prim.Native.Nat.{_+_, _≤_};
+ghost use lib.ListN.{length};
+ghost use Rattle.window_lines.specs.Within.{Within};
+
+// A window: whether its line is good; the places of its name in the text, which are the same where it has none; u and q of each axis in turn.
+pub struct WindowRead {
+    pub job: Job,
+    pub is_good: bool,
+    pub start: usize,
+    pub end: usize,
+    pub axes: usize,
+    pub cuts: [u64; 12],
+}
+
+// The places of a name in a text, which are the same where there is none, and where the cuts begin.
+struct Name {
+    start: usize,
+    end: usize,
+    after: usize,
+}
+
+// A line in error, which was said.
+fn not_good(j: Job) -> WindowRead
+    ensures { λ r. ⌜ Within r 0 ⌝ }
+{
+    WindowRead {
+        job: j,
+        is_good: false,
+        start: 0,
+        end: 0,
+        axes: 0,
+        cuts: [0; 12],
+    }
+}
+
+// The name from `from` on: the word before a word `=`.
+fn find_name(text: &[u8], from: usize) -> Name
+    requires { ⌜ from ≤ length (now text) ⌝ }
+    ensures { λ r. ⌜ (r .start ≤ r .end) × (r .end ≤ length (now (text .entry))) × (r .after ≤ length (now (text .entry))) ⌝ }
+{
+    let w = words::find(text, from);
+    let end = w.end;
+    let v = words::find(text, end);
+    let a = v.start;
+    let e = v.end;
+    if check::same(&text[a..e], b"=") {
+        return Name {
+            start: w.start,
+            end,
+            after: e,
+        };
+    }
+    Name {
+        start: from,
+        end: from,
+        after: from,
+    }
+}
+
+// Whether all bytes of a word are printable ASCII.
+fn is_printable(word: &[u8]) -> bool {
+    let mut i = 0;
+    while i < word.len() {
+        let b = word[i];
+        if b < 33 {
+            return false;
+        }
+        if 126 < b {
+            return false;
+        }
+        i += 1;
+    }
+    true
+}
+
+// Not a name.
+fn bad_name(j: Job, out: &mut [u8]) -> Job {
+    job::error(
+        j,
+        out,
+        b"expected a name of at most 32 printable ASCII characters",
+    )
+}
+
+// Not one fraction for each axis.
+fn not_each(j: Job, out: &mut [u8], axes: usize, got: usize) -> Job {
+    let begun = job::fail(j, out);
+    let said = job::say_between(
+        begun,
+        out,
+        b"expected a fraction U/Q for each of the ",
+        axes as u64,
+        b" axes, got ",
+    );
+    job::end_number(said, out, b"", got as u64)
+}
+
+// The window of a named or nameless line, with as many fractions as the plan has axes.
+fn read_window(j: Job, out: &mut [u8], text: &[u8], n: Name) -> WindowRead
+    requires { ⌜ (n .start ≤ n .end) × (n .end ≤ n .start + 32) × (n .end ≤ length (now text)) × (n .after ≤ length (now text)) ⌝ }
+    ensures { λ r. ⌜ Within r (length (now (text .entry))) ⌝ }
+{
+    let s = j.state;
+    let got = words::count(text, n.after);
+    if got != s.axes {
+        return not_good(not_each(j, out, s.axes, got));
+    }
+    let c = read_cuts(text, n.after);
+    if c.wrong != 0 {
+        return not_good(cuts::bad_fraction(j, out, c.axes, c.wrong));
+    }
+    let all = c.cuts;
+    WindowRead {
+        job: j,
+        is_good: true,
+        start: n.start,
+        end: n.end,
+        axes: c.axes,
+        cuts: all,
+    }
+}
+
+// A line of a window, from after its first word on.
+pub fn window_line(j: Job, out: &mut [u8], text: &[u8], from: usize) -> WindowRead
+    requires { ⌜ from ≤ length (now text) ⌝ }
+    ensures { λ r. ⌜ Within r (length (now (text .entry))) ⌝ }
+{
+    if !j.has_plan {
+        return not_good(job::error(j, out, b"expected a plan before the window"));
+    }
+    if !j.has_run {
+        return not_good(job::error(j, out, b"expected a run before the window"));
+    }
+    let n = find_name(text, from);
+    let start = n.start;
+    let end = n.end;
+    if 32 < end - start {
+        return not_good(bad_name(j, out));
+    }
+    if !is_printable(&text[start..end]) {
+        return not_good(bad_name(j, out));
+    }
+    read_window(j, out, text, n)
+}
