@@ -108,7 +108,7 @@ bases-valid bases n h (BasesFound.shared i j l v low high k f) =
 
 -- ---- axes
 
-axes-at : (ps ms : List ℕ) (s j : ℕ) → j < s → getD (axesOf ps ms s) j noAxis ≡ axisAt ps ms j
+pub axes-at : (ps ms : List ℕ) (s j : ℕ) → j < s → getD (axesOf ps ms s) j noAxis ≡ axisAt ps ms j
 unfolding axesOf
 axes-at ps ms zero j h = absurd (omega arith)
 axes-at ps ms (suc s) j h =
@@ -219,11 +219,11 @@ axes-valid ps ms n (AxesFound.axis i h v a wrong) =
 
 -- ---- the whole
 
-plan-halton : (family s : ℕ) (bases ps ms : List ℕ) → (family ≡ 2 → ⊥) → planOf family s bases ps ms ≡ halton family (take s bases)
+pub plan-halton : (family s : ℕ) (bases ps ms : List ℕ) → (family ≡ 2 → ⊥) → planOf family s bases ps ms ≡ halton family (take s bases)
 unfolding planOf planBy
 plan-halton family s bases ps ms h = ap (λ (t : Bool). planBy t family s bases ps ms) (ne-eqb family 2 h)
 
-plan-sobol : (family s : ℕ) (bases ps ms : List ℕ) → family ≡ 2 → planOf family s bases ps ms ≡ sobol (axesOf ps ms s)
+pub plan-sobol : (family s : ℕ) (bases ps ms : List ℕ) → family ≡ 2 → planOf family s bases ps ms ≡ sobol (axesOf ps ms s)
 unfolding planOf planBy
 plan-sobol family s bases ps ms e = ap (λ (n : ℕ). planOf n s bases ps ms) e
 
