@@ -228,7 +228,7 @@ unfolding planOf planBy
 plan-sobol family s bases ps ms e = ap (λ (n : ℕ). planOf n s bases ps ms) e
 
 -- a valid plan is of a family that there is, and has axes
-valid-kind : (family s : ℕ) (bases ps ms : List ℕ) → Valid (planOf family s bases ps ms) → (family ≤ 2) × (1 ≤ s)
+pub valid-kind : (family s : ℕ) (bases ps ms : List ℕ) → Valid (planOf family s bases ps ms) → (family ≤ 2) × (1 ≤ s)
 unfolding Valid
 valid-kind family s bases ps ms v =
     ⊎-elim
