@@ -122,7 +122,7 @@ module _ (ps ms : List ℕ) (i : ℕ) where
     d-is : degreeOf (getD ps i 0) ≡ length (axisAt ps ms i .ms)
     d-is = degree-of (v .degree)
 
-    fit-polynomial : FitPolynomial (getD ps i 0)
+    pub fit-polynomial : FitPolynomial (getD ps i 0)
     fit-polynomial =
         record {
           high = omega (arith, v .degree .high, pow-mono {i = suc (length (axisAt ps ms i .ms))} {j = 13} (omega (arith, v .degree-high)));
@@ -130,7 +130,7 @@ module _ (ps ms : List ℕ) (i : ℕ) where
           primitive = rw d-is (v .primitive);
         }
 
-    valid-given : (k : ℕ) → k < degreeOf (getD ps i 0) → GivenAt ms i k
+    pub valid-given : (k : ℕ) → k < degreeOf (getD ps i 0) → GivenAt ms i k
     unfolding GivenAt AllOddBelow
     valid-given k h =
         let d = degreeOf (getD ps i 0) in
