@@ -6,7 +6,7 @@ use mathlib.Core.List.{List, _++_}
 use Prim.Native.Nat.{ℕ, _≤_, _<_}
 use native.Mathlib.Omega.{arith}
 use borrow.Author.Tests.{lt-ltb, le-ltb}
-use lib.ListN.{length, getD, take, drop, replicate}
+use lib.ListN.{length, getD, take, drop, replicate, length-append}
 use lib.Seq.{take-at, length-take-le, getD-take}
 use Rattle.numbers.proofs.Cases.{lt-or-ge, eq-or-ne}
 use Rattle.numbers.proofs.ListedLaws.{zeros-at}
@@ -86,6 +86,18 @@ module _ {line : List ℕ} {from : ℕ} {r : PlanSaid} (p : Parsed line from r) 
   pub written-out : (old new : List ℕ) (code len : ℕ) → r .fault .code ≡ 0
       → Written (planOf (r .family) (r .axes) (r .bases) (r .polynomials) (r .ms)) old new code len → Outcome line from old (faultAt code 0 0 0 0) len new
   written-out old new code len z w = plan-out line from _ (p .spelled z) (valid-said .1) old new code len w
+
+-- ---- its length is in the buffer
+
+pub with-length : {line : List ℕ} {from : ℕ} {old : List ℕ} {f : Fault} {len : ℕ} {new : List ℕ} → Outcome line from old f len new
+    → Outcome line from old f len new × ((len ≤ length new) × (len ≡ length (take len new)))
+with-length o = let h = within o in (o, (h, sym (length-take-le _ _ h)))
+  where
+    within : {line : List ℕ} {from : ℕ} {old : List ℕ} {f : Fault} {len : ℕ} {new : List ℕ} → Outcome line from old f len new → len ≤ length new
+    within {old = old} (Outcome.built p s v h) = omega (arith, length-append (spell p) (drop (length (spell p)) old))
+    within (Outcome.misspelled wrong u) = omega arith
+    within (Outcome.unsound family s bases ps ms p c wrong h) = omega arith
+    within (Outcome.noRoom p s v h) = omega arith
 
 -- ---- what was built is read as the plan
 

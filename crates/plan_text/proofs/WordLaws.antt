@@ -142,3 +142,6 @@ nothing-put h = record { some = λ six v. absurd (h (six, v)); none = λ n. (ref
 pub words-put : {family s : ℕ} {bases ps ms old new : List ℕ} {r : ℕ} → (s ≤ 6) × Valid (planOf family s bases ps ms)
     → TextPut old new 0 (planText (planOf family s bases ps ms)) r → WordsPut family s bases ps ms old new r
 words-put v p = record { some = λ six w. p; none = λ n. absurd (n v) }
+
+pub long-enough : (new : List ℕ) (r : ℕ) → r ≤ length new → (r ≤ length new) × (r ≡ length (take r new))
+long-enough new r h = (h, sym (length-take-le r new h))

@@ -24,7 +24,7 @@ fn put_part(out: &mut [u8], at: usize, mark: u8, n: u64) -> usize
 // The bases of `axes` axes.
 fn put_bases(out: &mut [u8], start: usize, bases: &[u64], axes: usize) -> usize
     requires { ⌜ (axes ≤ 6) × (axes ≤ length (now bases)) × (start + 44 ≤ length (now out)) × ((k : ℕ) → k < axes → getD (now bases) k 0 ≤ 256) ⌝ }
-    ensures { λ r. ⌜ TextPut (now (out .entry)) (now (out .exit)) start (basesText (take axes (now (bases .entry)))) r ⌝ }
+    ensures { λ r. ⌜ TextPut (now (out .entry)) (now (out .exit)) start (basesText (take axes (now (bases .entry)))) r × (r ≤ start + 30) ⌝ }
 {
     let mut at = start;
     let mut i = 0;
@@ -76,7 +76,7 @@ fn put_axis(out: &mut [u8], at: usize, polynomials: &[u64], ms: &[u64], i: usize
 // `axes` axes.
 fn put_axes(out: &mut [u8], start: usize, polynomials: &[u64], ms: &[u64], axes: usize) -> usize
     requires { ⌜ (axes ≤ 6) × (length (now polynomials) ≡ 6) × (length (now ms) ≡ 72) × (start + 404 ≤ length (now out)) × ((k : ℕ) → k < axes → GoodAxis (now polynomials) (now ms) k) ⌝ }
-    ensures { λ r. ⌜ TextPut (now (out .entry)) (now (out .exit)) start (axesText (axesOf (now (polynomials .entry)) (now (ms .entry)) axes)) r ⌝ }
+    ensures { λ r. ⌜ TextPut (now (out .entry)) (now (out .exit)) start (axesText (axesOf (now (polynomials .entry)) (now (ms .entry)) axes)) r × (r ≤ start + 390) ⌝ }
 {
     let mut at = start;
     let mut i = 0;
@@ -112,7 +112,7 @@ fn put_plan(
 ) -> usize
     requires { ⌜ (length (now bases) ≡ 6) × (length (now polynomials) ≡ 6) × (length (now ms) ≡ 72) × (412 ≤ length (now out)) × (axes ≤ 6)
         × Valid (planOf family axes (now bases) (now polynomials) (now ms)) ⌝ }
-    ensures { λ r. ⌜ TextPut (now (out .entry)) (now (out .exit)) 0 (planText (planOf family axes (now (bases .entry)) (now (polynomials .entry)) (now (ms .entry)))) r ⌝ }
+    ensures { λ r. ⌜ TextPut (now (out .entry)) (now (out .exit)) 0 (planText (planOf family axes (now (bases .entry)) (now (polynomials .entry)) (now (ms .entry)))) r × (r ≤ 398) ⌝ }
 {
     let at = put_family(out, family);
     if family == 2 {
@@ -121,7 +121,8 @@ fn put_plan(
     put_bases(out, at, bases, axes)
 }
 
-// Puts the words of the plan that the arrays hold to the front of `out`, and gives their length; 0 where they hold no valid plan.
+// Puts the words of the plan that the arrays hold to the front of `out`, and gives their length; 0 where they hold no valid plan. The
+// second clause follows from the first: with it a caller's `&out[..r]` needs no proof.
 pub fn put_words(
     out: &mut [u8],
     family: u64,
@@ -132,6 +133,7 @@ pub fn put_words(
 ) -> usize
     requires { ⌜ (length (now bases) ≡ 6) × (length (now polynomials) ≡ 6) × (length (now ms) ≡ 72) × (412 ≤ length (now out)) ⌝ }
     ensures { λ r. ⌜ WordsPut family axes (now (bases .entry)) (now (polynomials .entry)) (now (ms .entry)) (now (out .entry)) (now (out .exit)) r ⌝ }
+    ensures { λ r. ⌜ (r ≤ length (now (out .exit))) × (r ≡ length (take r (now (out .exit)))) ⌝ }
 {
     let f = plan_check::check(family, axes, bases, polynomials, ms);
     if f.code != 0 {

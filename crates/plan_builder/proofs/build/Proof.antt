@@ -3,7 +3,7 @@ use borrow.Author.Needs.{needs}
 use mathlib.Core.Path.{_≡_}
 use native.Mathlib.Omega.{arith}
 use Rattle.plan_builder.specs.Outcome.{Outcome}
-use Rattle.plan_builder.proofs.BuildLaws.{writable, written-out}
+use Rattle.plan_builder.proofs.BuildLaws.{writable, written-out, with-length}
 use Rattle.plan_builder.proofs.build.Statement.{statement}
 use Rattle.plan_builder.proofs.build.Tie as tie
 
@@ -14,7 +14,7 @@ returns : tie.Need-returns
 returns c =
     let p = c .before .before .before in
     let wrong : p .parse .result .fault .code ≡ 0 → ⊥ = λ z. omega arith in
-    Outcome.misspelled wrong (p .parse .ensures .refused wrong)
+    with-length (Outcome.misspelled wrong (p .parse .ensures .refused wrong))
 
 slice-aggregate-check : tie.Need-slice-aggregate-check
 slice-aggregate-check c = search needs
@@ -35,7 +35,7 @@ returns-2 c =
     let p = i .before .before in
     let said : p .parse .result .fault .code ≡ 0 = omega (arith, i .if1 .left) in
     let wrong : k .check .result .code ≡ 0 → ⊥ = λ z. omega arith in
-    Outcome.unsound _ _ _ _ _ (p .parse .ensures .spelled said) (k .check .ensures) wrong (p .parse .ensures .size)
+    with-length (Outcome.unsound _ _ _ _ _ (p .parse .ensures .spelled said) (k .check .ensures) wrong (p .parse .ensures .size))
 
 slice-aggregate-write-plan : tie.Need-slice-aggregate-write-plan
 slice-aggregate-write-plan c = search needs
@@ -69,7 +69,7 @@ returns-3 c =
     let p = i .before .before in
     let said : p .parse .result .fault .code ≡ 0 = omega (arith, i .if1 .left) in
     let sound : k .check .result .code ≡ 0 = omega (arith, j .if2 .left) in
-    rw (c .report .ensures) (written-out (p .parse .ensures) (k .check .ensures) sound _ _ _ _ said (w .write-plan .ensures))
+    rw (c .report .ensures) (with-length (written-out (p .parse .ensures) (k .check .ensures) sound _ _ _ _ said (w .write-plan .ensures)))
 
 pub build-spec : {M : Type 1} → statement M
 build-spec =

@@ -46,7 +46,7 @@ returns : tie.Need-returns Inv-loop μ-loop
 returns c =
     let l = c .before .loop in
     let e : l .i ≡ c .before .before .before .before .before .args .axes = omega arith in
-    rw e at (l .inv .2)
+    (rw e at (l .inv .2), omega arith)
 
 pub put-axes-spec : {M : Type 1} → statement M
 put-axes-spec =

@@ -34,7 +34,7 @@ returns c =
     let a = s .args in
     let e : a .family ≡ 2 = omega (arith, x .before .before .if1 .taken) in
     let room : 0 ≤ length (a .out .now) = omega arith in
-    rw (← sobol-text (a .family) (a .axes) (a .bases .now) (a .polynomials .now) (a .ms .now) (s .pre .0) (s .pre .4) (s .pre .5) e) (put-then room (f .put-family .ensures .0) (x .put-axes .ensures))
+    (rw (← sobol-text (a .family) (a .axes) (a .bases .now) (a .polynomials .now) (a .ms .now) (s .pre .0) (s .pre .4) (s .pre .5) e) (put-then room (f .put-family .ensures .0) (x .put-axes .ensures .0)), omega (arith, x .put-axes .ensures .1, f .put-family .ensures .1))
 
 put-bases-requires : tie.Need-put-bases-requires
 put-bases-requires c κs =
@@ -55,7 +55,7 @@ returns-2 c =
     let a = s .args in
     let n : a .family ≡ 2 → ⊥ = λ e. omega (arith, x .before .before .if1 .left) in
     let room : 0 ≤ length (a .out .now) = omega arith in
-    rw (← halton-text (a .family) (a .axes) (a .bases .now) (a .polynomials .now) (a .ms .now) (s .pre .0) (s .pre .4) (s .pre .5) n) (put-then room (f .put-family .ensures .0) (x .put-bases .ensures))
+    (rw (← halton-text (a .family) (a .axes) (a .bases .now) (a .polynomials .now) (a .ms .now) (s .pre .0) (s .pre .4) (s .pre .5) n) (put-then room (f .put-family .ensures .0) (x .put-bases .ensures .0)), omega (arith, x .put-bases .ensures .1, f .put-family .ensures .1))
 
 pub put-plan-spec : {M : Type 1} → statement M
 put-plan-spec =
