@@ -3,14 +3,14 @@ use mathlib.Core.Path.{_≡_, refl, sym, ap, _∙_}
 use mathlib.Core.Bool.{Bool, true, false, true≢false, cond}
 use mathlib.Core.Logic.{⊎-elim}
 use mathlib.Core.List.{List, []}
-use Prim.Native.Nat.{ℕ, zero, suc, _+_, _-_, _*_, _≤_, _<_}
+use Prim.Native.Nat.{ℕ, _+_, _-_, _*_, _≤_, _<_}
 use native.Mathlib.Omega.{arith}
 use native.Mathlib.Numerals.{add-one}
 use borrow.Author.Count.{below-more}
 use borrow.Author.Tests.{eq-eqb, ne-eqb}
 use lib.Dec.{eqb}
-use lib.ListN.{length, getD, take, drop, set, length-set, length-take, length-drop, drop-of-length-le}
-use lib.Seq.{drop-drop, drop-length, take-all, take-nil, getD-set-same, getD-set-other, getD-take, getD-drop, length-take-le, ext-getD}
+use lib.ListN.{length, getD, take, drop, set, length-set, length-drop, drop-of-length-le}
+use lib.Seq.{drop-drop, drop-length, take-all, take-nil, getD-set-same, getD-set-other, getD-take, getD-drop, length-take-le}
 use Rattle.numbers.proofs.Cases.{lt-or-ge}
 use Rattle.binary.specs.Polynomial.{degreeOf}
 use Rattle.binary.proofs.DegreeLaws.{degree-of}
@@ -18,7 +18,7 @@ use Rattle.words.specs.Word.{leading}
 use Rattle.words.specs.Decimal.{numberOf}
 use Rattle.words.specs.declared.Number.{Number}
 use Rattle.words.specs.declared.Number.the-variants.{Value, NoNumber, TooLarge}
-use Rattle.words.proofs.WordLaws.{here, leading-more, leading-stop, leading-end}
+use Rattle.words.proofs.WordLaws.{here}
 use Rattle.words.proofs.DecimalLaws.{number-none}
 use Rattle.plan.specs.Plan.{Axis}
 use Rattle.fitting.proofs.AxisLaws.{degree-is, degree-low}

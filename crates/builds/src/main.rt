@@ -34,12 +34,11 @@ fn print_words(bytes: &[u8]) {
     print(b"\n");
 }
 
-// A line, and what it builds.
-fn build(line: &[u8]) {
+// A line, and what it builds in a buffer.
+fn build_into(line: &[u8], bytes: &mut [u8]) {
     print(line);
     print(b"\n    ");
-    let mut bytes = [0u8; 71];
-    let b = plan_builder::build(line, 0, &mut bytes);
+    let b = plan_builder::build(line, 0, bytes);
     let fault = b.fault;
     if fault.code != 0 {
         let mut text = [0u8; 256];
@@ -52,6 +51,12 @@ fn build(line: &[u8]) {
     print_hex(&bytes[..len]);
     print(b"    ");
     print_words(&bytes[..len]);
+}
+
+// A line, and what it builds where there is room for any plan.
+fn build(line: &[u8]) {
+    let mut bytes = [0u8; 71];
+    build_into(line, &mut bytes);
 }
 
 // Plans of each family.
@@ -110,8 +115,16 @@ fn unsound() {
     build(b"sobol 11:0,3,7");
 }
 
+// A buffer of three bytes: a plan that fits, and one that does not.
+fn no_room() {
+    let mut bytes = [0u8; 3];
+    build_into(b"halton 2 3", &mut bytes);
+    build_into(b"halton 2 3 5", &mut bytes);
+}
+
 fn main() {
     good();
+    no_room();
     misspelled();
     unsound();
 }

@@ -119,11 +119,16 @@ fn say_shared(out: &mut [u8], at: usize, f: Fault) -> usize
     say_number(out, e, f.place as u64)
 }
 
-// A polynomial that another axis has.
+// A polynomial that another axis has; that of degree 0 is written 0.
 fn say_twin(out: &mut [u8], at: usize, f: Fault) -> usize
     requires { ⌜ (at ≤ 256) × (256 ≤ length (now out)) ⌝ }
     ensures { λ r. ⌜ (r ≤ 256) × (length (now (out .exit)) ≡ length (now (out .entry))) ⌝ }
 {
+    if f.got == 1 {
+        let zero = say(out, at, b"0 stands at axis ");
+        let axis = say_number(out, zero, f.place as u64);
+        return say(out, axis, b" already");
+    }
     let a = say_polynomial(out, at, f.got);
     let b = say(out, a, b" is the polynomial of axis ");
     let c = say_number(out, b, f.place as u64);

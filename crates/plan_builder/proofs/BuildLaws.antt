@@ -1,6 +1,5 @@
 -- What the builder writes is read as the plan that the words say. Assumes nothing.
-use mathlib.Core.Path.{_≡_, refl, sym, ap, _∙_}
-use mathlib.Core.Bool.{Bool, true, false, cond}
+use mathlib.Core.Path.{_≡_, refl, sym}
 use mathlib.Core.Logic.{⊎-elim}
 use mathlib.Core.List.{List, _++_}
 use Prim.Native.Nat.{ℕ, _≤_, _<_}
@@ -12,7 +11,7 @@ use Rattle.numbers.proofs.Cases.{lt-or-ge, eq-or-ne}
 use Rattle.numbers.proofs.ListedLaws.{zeros-at}
 use Rattle.binary.specs.Polynomial.{degreeOf}
 use Rattle.binary.proofs.DegreeLaws.{degree-of}
-use Rattle.plan.specs.Plan.{noAxis, Plan, Valid, spell}
+use Rattle.plan.specs.Plan.{Plan, Valid, spell}
 use Rattle.plan.specs.Reading.{accepted, readPlan}
 use Rattle.plan.specs.Answer.{planOf}
 use Rattle.plan.proofs.AcceptLaws.{accepted-iff}
@@ -21,10 +20,10 @@ use Rattle.plan.proofs.AnswerLaws.{length-axes}
 use Rattle.fitting.proofs.AxisLaws.{degree-low}
 use Rattle.writer.specs.Parts.{Writable, Written}
 use Rattle.plan_check.specs.declared.Fault.{Fault}
-use Rattle.plan_check.specs.Found.{faultAt, noFault, Found}
+use Rattle.plan_check.specs.Found.{faultAt, Found}
 use Rattle.plan_check.proofs.FoundLaws.{axes-at, plan-halton, plan-sobol, valid-kind, found-valid}
 use Rattle.plan_words.specs.Says.{Says}
-use Rattle.plan_words.specs.Parsed.{Unspelled, Parsed}
+use Rattle.plan_words.specs.Parsed.{Parsed}
 use Rattle.plan_words.specs.declared.PlanSaid.{PlanSaid}
 use Rattle.plan_builder.specs.Outcome.{Outcome}
 

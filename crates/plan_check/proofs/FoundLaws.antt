@@ -2,26 +2,25 @@
 use mathlib.Core.Path.{_≡_, refl, sym, ap, _∙_}
 use mathlib.Core.Bool.{Bool}
 use mathlib.Core.Logic.{_↔_, ⊎-elim}
-use mathlib.Core.List.{List, [], _∷_, _++_}
+use mathlib.Core.List.{List, [], _∷_}
 use Prim.Native.Nat.{ℕ, zero, suc, _+_, _*_, _/_, _%_, _^_, _≤_, _<_}
 use native.Mathlib.Omega.{arith}
 use native.Mathlib.Nat.{one-le-pow, div-lt-iff-lt-mul}
 use native.Mathlib.Numerals.{add-one}
-use borrow.Author.Count.{below-more}
 use borrow.Author.Tests.{ne-eqb}
 use lib.ListN.{length, getD, take, drop, length-take, length-drop, List·getD-append}
 use lib.Seq.{take-suc, length-take-le, getD-take, getD-drop, getD-at}
 use lib.Pow.{pow-mono}
-use Rattle.numbers.specs.Gcd.{gcd, Coprime}
+use Rattle.numbers.specs.Gcd.{gcd}
 use Rattle.numbers.proofs.Cases.{lt-or-ge, eq-or-ne}
 use Rattle.numbers.proofs.GcdLaws.{gcd-one-iff-coprime}
 use Rattle.binary.specs.Polynomial.{degreeOf}
 use Rattle.binary.proofs.DegreeLaws.{degree-of}
 use Rattle.binary.proofs.PolynomialLaws.{no-digit}
-use Rattle.sobol.specs.Directions.{OddBelow, AllOddBelow}
-use Rattle.plan.specs.Plan.{Axis, noAxis, halton, sobol, ValidBases, ValidAxis, ValidAxes, OneToSix, Valid}
+use Rattle.sobol.specs.Directions.{AllOddBelow}
+use Rattle.plan.specs.Plan.{Axis, noAxis, halton, sobol, ValidBases, ValidAxis, ValidAxes, Valid}
 use Rattle.plan.specs.Answer.{axisAt, axesOf, planBy, planOf}
-use Rattle.plan.proofs.ValidLaws.{no-bases, bases-snoc, no-axes, axes-snoc}
+use Rattle.plan.proofs.ValidLaws.{bases-snoc, axes-snoc}
 use Rattle.plan.proofs.AnswerLaws.{length-axes}
 use Rattle.fitting.specs.Fits.{FitPolynomial}
 use Rattle.fitting.proofs.AxisLaws.{degree-is, degree-low}

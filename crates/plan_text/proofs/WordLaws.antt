@@ -1,29 +1,25 @@
 -- The words of a plan, one part after another. Assumes nothing.
-use mathlib.Core.Path.{_≡_, refl, sym, ap, _∙_}
-use mathlib.Core.Logic.{⊎-elim}
+use mathlib.Core.Path.{_≡_, refl, sym}
 use mathlib.Core.List.{List, [], _∷_, _++_, append-assoc, append-nil}
-use Prim.Native.Nat.{ℕ, zero, suc, _+_, _*_, _^_, _≤_, _<_, max}
+use Prim.Native.Nat.{ℕ, zero, suc, _+_, _*_, _≤_, _<_, max}
 use native.Mathlib.Omega.{arith}
 use native.Mathlib.Numerals.{add-one}
 use lib.ListN.{length, getD, take, drop, length-take, length-drop}
 use lib.Pow.{pow-mono}
 use lib.Seq.{take-suc, getD-drop, getD-take, length-take-le}
-use Rattle.numbers.proofs.Cases.{eq-or-ne}
 use Rattle.numbers.specs.Digits.{digitCount}
 use Rattle.numbers.proofs.DigitLaws.{digit-count-le-iff}
 use Rattle.binary.specs.Polynomial.{degreeOf}
-use Rattle.binary.proofs.DegreeLaws.{degree-of}
-use Rattle.sobol.specs.Directions.{AllOddBelow}
 use Rattle.fitting.proofs.AxisLaws.{degree-low}
 use Rattle.text.specs.Decimal.{decimal}
 use Rattle.text.specs.Put.{TextPut}
 use Rattle.text.proofs.DecimalLaws.{length-digits}
 use Rattle.text.proofs.PutLaws.{put-none, put-then}
-use Rattle.plan.specs.Plan.{Axis, noAxis, Plan, halton, sobol, ValidAxis, Valid}
+use Rattle.plan.specs.Plan.{Axis, Valid}
 use Rattle.plan.specs.Answer.{axisAt, axesOf, planOf}
 use Rattle.plan.proofs.AnswerLaws.{length-axes}
 use Rattle.plan_check.proofs.FoundLaws.{axes-at, fit-polynomial, valid-given, given-low, plan-halton, plan-sobol, valid-kind}
-use Rattle.plan_words.specs.Says.{familyWords, familyWord}
+use Rattle.plan_words.specs.Says.{familyWord}
 use Rattle.plan_text.specs.Words.{space, part, basesText, markAt, msText, axisText, axesText, planText, GoodAxis, WordsPut}
 
 -- ---- a number of few digits

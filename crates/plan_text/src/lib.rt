@@ -1,9 +1,7 @@
 // The words of a plan that arrays hold, put into a lent buffer. Each `put` gives the place after what it put.
 ghost use mathlib.Core.Path.{_≡_};
-ghost use mathlib.Core.List.{_∷_, []};
-ghost use Prim.Native.Nat.{ℕ, _+_, _*_, _^_, _<_, _≤_};
+ghost use Prim.Native.Nat.{ℕ, _+_, _*_, _<_, _≤_};
 ghost use lib.ListN.{length, getD, take, drop};
-ghost use Rattle.binary.specs.Polynomial.{degreeOf};
 ghost use Rattle.plan.specs.Plan.{Valid};
 ghost use Rattle.plan.specs.Answer.{axisAt, axesOf, planOf};
 ghost use Rattle.plan_words.specs.Says.{familyWord};

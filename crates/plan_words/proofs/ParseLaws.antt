@@ -1,8 +1,6 @@
 -- The words of a line, one axis after another; and a line with a word at fault says no plan. Assumes nothing.
 use mathlib.Core.Path.{_≡_, refl, sym, ap, _∙_}
-use mathlib.Core.Bool.{Bool, true, false}
-use mathlib.Core.Logic.{⊎-elim}
-use mathlib.Core.List.{List, [], _∷_}
+use mathlib.Core.List.{List}
 use Prim.Native.Nat.{ℕ, zero, suc, _+_, _-_, _*_, _≤_, _<_}
 use native.Mathlib.Omega.{arith}
 use native.Mathlib.Numerals.{add-one}
@@ -10,15 +8,15 @@ use borrow.Author.Count.{below-more}
 use lib.ListN.{length, getD, take, drop, set, replicate, length-set, length-take, length-drop}
 use lib.Seq.{getD-set-same, getD-set-other, getD-take, getD-drop, length-take-le, ext-getD}
 use Rattle.binary.specs.Polynomial.{degreeOf}
-use Rattle.words.specs.Word.{FirstWord, firstWord}
+use Rattle.words.specs.Word.{FirstWord}
 use Rattle.words.specs.Decimal.{numberOf}
 use Rattle.words.specs.declared.Word.{Word}
 use Rattle.words.specs.declared.Number.the-variants.{Value}
 use Rattle.plan.specs.Plan.{Axis, noAxis, Plan, halton, sobol, OneToSix}
-use Rattle.plan.specs.Answer.{axisAt, axesOf, planOf}
+use Rattle.plan.specs.Answer.{axisAt, axesOf}
 use Rattle.plan.proofs.AnswerLaws.{length-axes}
 use Rattle.axis_words.specs.Spelled.{AxisWord}
-use Rattle.axis_words.specs.Parsed.{NumberRead, Kept, AxisRead}
+use Rattle.axis_words.specs.Parsed.{Kept}
 use Rattle.plan_check.specs.declared.Fault.{Fault}
 use Rattle.plan_check.specs.Found.{faultAt, noFault}
 use Rattle.plan_check.proofs.FoundLaws.{axes-at, plan-halton, plan-sobol}

@@ -1,6 +1,5 @@
 -- Past the text's end there is nothing. Assumes nothing.
 use borrow.Author.Needs.{needs}
-use mathlib.Core.Path.{_≡_, refl}
 use native.Mathlib.Omega.{arith}
 use Rattle.axis_words.proofs.PartLaws.{nothing-past}
 use Rattle.axis_words.proofs.next_place.Statement.{statement}

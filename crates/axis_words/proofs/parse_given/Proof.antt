@@ -5,7 +5,7 @@ use mathlib.Core.Path.{sym}
 use native.Mathlib.Omega.{arith}
 use lib.Seq.{length-take-le}
 use Rattle.fitting.proofs.AxisLaws.{degree-low}
-use Rattle.axis_words.proofs.PartLaws.{kept-none, not-given, no-head, head-low, head-high, d-some, d-low, other-count, no-number, all-given}
+use Rattle.axis_words.proofs.PartLaws.{kept-none, not-given, no-head, head-low, head-high, d-some, other-count, no-number, all-given}
 use Rattle.axis_words.proofs.parse_given.Statement.{statement}
 use Rattle.axis_words.proofs.parse_given.Tie as tie
 

@@ -2,10 +2,9 @@
 use mathlib.Core.Path.{_≡_}
 use Prim.Native.Nat.{_-_, _≤_}
 use native.Mathlib.Omega.{arith}
-use native.Mathlib.Numerals.{add-one}
 use borrow.Author.Count.{below-more}
 use Rattle.plan_check.specs.Found.{GivenAt}
-use Rattle.plan_check.proofs.FoundLaws.{Before, none-before, first-here, first-none, given-odd, given-parity, given-low, some-digit, no-digit-left}
+use Rattle.plan_check.proofs.FoundLaws.{Before, none-before, first-here, first-none, given-odd, given-parity, some-digit, no-digit-left}
 use Rattle.plan_check.proofs.first_wrong.Statement.{statement}
 use Rattle.plan_check.proofs.first_wrong.Tie as tie
 

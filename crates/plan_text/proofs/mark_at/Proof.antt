@@ -1,5 +1,4 @@
 -- A colon first, and then commas. Assumes nothing.
-use borrow.Author.Needs.{needs}
 use Rattle.plan_text.proofs.WordLaws.{first-mark, later-mark}
 use native.Mathlib.Omega.{arith}
 use Rattle.plan_text.proofs.mark_at.Statement.{statement}

@@ -1,6 +1,5 @@
 -- The words so far are axes. Assumes nothing.
 use borrow.Author.Needs.{needs}
-use mathlib.Core.Path.{sym}
 use Prim.Native.Nat.{_-_, _≤_}
 use native.Mathlib.Omega.{arith}
 use Rattle.plan_words.proofs.ParseLaws.{Place, first-place, next-place, here, AxesSoFar, no-axes, axis-next, axis-wrong, axes-all}
