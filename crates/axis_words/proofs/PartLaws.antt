@@ -10,7 +10,7 @@ use borrow.Author.Count.{below-more}
 use borrow.Author.Tests.{eq-eqb, ne-eqb}
 use lib.Dec.{eqb}
 use lib.ListN.{length, getD, take, drop, set, length-set, length-drop, drop-of-length-le}
-use lib.Seq.{drop-drop, drop-length, take-all, take-nil, getD-set-same, getD-set-other, getD-take, getD-drop, length-take-le}
+use lib.Seq.{drop-drop, drop-length, take-all, take-nil, getD-set-same, getD-set-other, getD-take, getD-drop, length-take-le, ext-getD}
 use Rattle.numbers.proofs.Cases.{lt-or-ge}
 use Rattle.binary.specs.Polynomial.{degreeOf}
 use Rattle.binary.proofs.DegreeLaws.{degree-of}
@@ -246,3 +246,25 @@ zero-axis word i new e =
 pub other-axis : {word : List ℕ} {i : ℕ} {new : List ℕ} {code polynomial : ℕ} → (word ≡ zeroWord → ⊥) → GivenRead word i new code polynomial
     → AxisRead word i new code polynomial
 other-axis h g = record { spelled = λ z. AxisWord.given _ _ (g .spelled z); refused = λ z. axis-not h (g .refused z); low = g .low }
+
+-- ---- a word spells one axis
+
+zero-not-given : (p : ℕ) (ms : List ℕ) → Given zeroWord p ms → ⊥
+unfolding leading isNot
+zero-not-given p ms g = no-colon zeroWord 1 refl refl p ms g
+
+given-same : {word : List ℕ} {p q : ℕ} {ms ns : List ℕ} → Given word p ms → Given word q ns
+    → _≡_ {A = Axis} (record { polynomial = p; ms = ms }) (record { polynomial = q; ms = ns })
+given-same {word} {ms = ms} {ns = ns} g h =
+    let e = value-same (upTo colon word) (g .polynomial) (h .polynomial) in
+    let d = ap degreeOf e in
+    let f : ms ≡ ns =
+    ext-getD 0 ms ns (omega (arith, g .long, h .long, d))
+    (λ k l. value-same (partAt (past colon word) k) (g .each k (omega (arith, g .long))) (h .each k (omega (arith, g .long, d)))) in
+    λ i. record { polynomial = e i; ms = f i }
+
+pub axis-same : {word : List ℕ} (x y : Axis) → AxisWord word x → AxisWord word y → x ≡ y
+axis-same x y (AxisWord.plain e) (AxisWord.plain f) = refl
+axis-same x y (AxisWord.plain e) (AxisWord.given q ns h) = absurd (zero-not-given q ns (rw e at h))
+axis-same x y (AxisWord.given p ms g) (AxisWord.plain f) = absurd (zero-not-given p ms (rw f at g))
+axis-same x y (AxisWord.given p ms g) (AxisWord.given q ns h) = given-same g h

@@ -1,5 +1,5 @@
--- What the builder writes is read as the plan that the words say. Assumes nothing.
-use mathlib.Core.Path.{_≡_, refl, sym}
+-- What the builder writes is read as the plan that the words say, and every valid plan is built. Assumes nothing.
+use mathlib.Core.Path.{_≡_, refl, sym, ap}
 use mathlib.Core.Logic.{⊎-elim}
 use mathlib.Core.List.{List, _++_}
 use Prim.Native.Nat.{ℕ, _≤_, _<_}
@@ -25,6 +25,7 @@ use Rattle.plan_check.proofs.FoundLaws.{axes-at, plan-halton, plan-sobol, valid
 use Rattle.plan_words.specs.Says.{Says}
 use Rattle.plan_words.specs.Parsed.{Parsed}
 use Rattle.plan_words.specs.declared.PlanSaid.{PlanSaid}
+use Rattle.plan_words.proofs.ParseLaws.{unspelled, says-same}
 use Rattle.plan_builder.specs.Outcome.{Outcome}
 
 -- ---- what is said and sound can be written
@@ -95,7 +96,7 @@ with-length o = let h = within o in (o, (h, sym (length-take-le _ _ h)))
     within : {line : List ℕ} {from : ℕ} {old : List ℕ} {f : Fault} {len : ℕ} {new : List ℕ} → Outcome line from old f len new → len ≤ length new
     within {old = old} (Outcome.built p s v h) = omega (arith, length-append (spell p) (drop (length (spell p)) old))
     within (Outcome.misspelled wrong u) = omega arith
-    within (Outcome.unsound family s bases ps ms p c wrong h) = omega arith
+    within (Outcome.unsound family s bases ps ms p c wrong few h) = omega arith
     within (Outcome.noRoom p s v h) = omega arith
 
 -- ---- what was built is read as the plan
@@ -113,5 +114,16 @@ built-read {old = old} (Outcome.built p s v h) z =
     let front : take (length (spell p)) (spell p ++ drop (length (spell p)) old) ≡ spell p = take-at (spell p) (drop (length (spell p)) old) (length (spell p)) refl in
     record { plan = p; says = s; valid = v; bytes = front; read = rw front (accepted-iff (spell p) (spell-below p) p .1 (v, refl)) }
 built-read (Outcome.misspelled wrong u) z = absurd (wrong z)
-built-read (Outcome.unsound family s bases ps ms p c wrong h) z = absurd (wrong z)
+built-read (Outcome.unsound family s bases ps ms p c wrong few h) z = absurd (wrong z)
 built-read (Outcome.noRoom p s v h) z = absurd (omega arith)
+
+-- a line that says a valid plan is built, where there is room
+pub says-built : {line : List ℕ} {from : ℕ} {old : List ℕ} {f : Fault} {len : ℕ} {new : List ℕ} → Outcome line from old f len new
+    → (p : Plan) → Says line from p → Valid p → length (spell p) ≤ length old → f .code ≡ 0
+says-built (Outcome.built q t w h) p s v room = refl
+says-built {line} {from} (Outcome.misspelled wrong u) p s v room = absurd (unspelled line from u p s)
+says-built {line} {from} (Outcome.unsound family n bases ps ms t c wrong few h) p s v room =
+    let e = says-same line from p (planOf family n bases ps ms) s t in
+    found-valid family n bases ps ms h c .1 (few, rw e at v)
+says-built {line} {from} (Outcome.noRoom q t w h) p s v room =
+    let e = says-same line from p q s t in absurd (omega (arith, ap (λ (x : Plan). length (spell x)) e))

@@ -17,5 +17,5 @@ pub data Outcome (line : List ℕ) (from : ℕ) (old : List ℕ) : Fault → ℕ
       → Outcome line from old noFault (length (spell p)) (spell p ++ drop (length (spell p)) old)
   misspelled : {f : Fault} → (f .code ≡ 0 → ⊥) → Unspelled line from (f .code) (f .axis) → Outcome line from old f 0 old
   unsound : {f : Fault} (family s : ℕ) (bases ps ms : List ℕ) → Says line from (planOf family s bases ps ms)
-      → Found family s bases ps ms f → (f .code ≡ 0 → ⊥) → length bases ≡ 6 → Outcome line from old f 0 old
+      → Found family s bases ps ms f → (f .code ≡ 0 → ⊥) → s ≤ 6 → length bases ≡ 6 → Outcome line from old f 0 old
   noRoom : (p : Plan) → Says line from p → Valid p → length old < length (spell p) → Outcome line from old (faultAt 13 0 0 0 0) 0 old

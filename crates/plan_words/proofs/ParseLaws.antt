@@ -17,6 +17,7 @@ use Rattle.plan.specs.Answer.{axisAt, axesOf}
 use Rattle.plan.proofs.AnswerLaws.{length-axes}
 use Rattle.axis_words.specs.Spelled.{AxisWord}
 use Rattle.axis_words.specs.Parsed.{Kept}
+use Rattle.axis_words.proofs.PartLaws.{value-same, axis-same}
 use Rattle.plan_check.specs.declared.Fault.{Fault}
 use Rattle.plan_check.specs.Found.{faultAt, noFault}
 use Rattle.plan_check.proofs.FoundLaws.{axes-at, plan-halton, plan-sobol}
@@ -138,6 +139,7 @@ module _ (line : List ℕ) (from : ℕ) where
   pub unsaid-family : {f : ℕ} {r : PlanSaid} → FamilyRead (wordText line from) f → families ≤ f → Unsaid 2 r → Parsed line from r
   unsaid-family n h u =
       record {
+        few = omega (arith, u .none);
         size = ap length (u .bases);
         size-polynomials = ap length (u .polynomials);
         size-ms = ap length (u .ms);
@@ -149,6 +151,7 @@ module _ (line : List ℕ) (from : ℕ) where
   pub unsaid-count : {r : PlanSaid} → (OneToSix (axesSaid line from) → ⊥) → Unsaid 3 r → Parsed line from r
   unsaid-count h u =
       record {
+        few = omega (arith, u .none);
         size = ap length (u .bases);
         size-polynomials = ap length (u .polynomials);
         size-ms = ap length (u .ms);
@@ -166,6 +169,7 @@ module _ (line : List ℕ) (from : ℕ) where
     unfolding Says
     said-axes ps ms two a =
         record {
+          few = few .1;
           size = refl;
           size-polynomials = a .size;
           size-ms = a .size-ms;
@@ -188,6 +192,7 @@ module _ (line : List ℕ) (from : ℕ) where
     said-bases bases low b =
         let front = length-take-le s bases (omega (arith, b .size, few .1)) in
         record {
+          few = few .1;
           size = b .size;
           size-polynomials = refl;
           size-ms = refl;
@@ -240,3 +245,31 @@ module _ (line : List ℕ) (from : ℕ) where
   unspelled (Unspelled.badBase family i low n h none) (sobol axes) s = not-sobol family low (sym n ∙ s .0 .named)
   unspelled (Unspelled.badAxis code i n h none) (halton family bases) s = not-sobol family (s .0) (sym (s .1 .named) ∙ n)
   unspelled (Unspelled.badAxis code i n h none) (sobol axes) s = none (getD axes i noAxis) (s .1 i (omega (arith, s .0 .count)))
+
+-- ---- a line says one plan
+
+family-same : (f g : ℕ) → f < 2 → g < 2 → familyWord f ≡ familyWord g → f ≡ g
+unfolding familyWords
+family-same zero zero h k e = refl
+family-same zero (suc zero) h k e = absurd (omega (arith, ap length e))
+family-same zero (suc (suc g)) h k e = absurd (omega arith)
+family-same (suc zero) zero h k e = absurd (omega (arith, ap length e))
+family-same (suc zero) (suc zero) h k e = refl
+family-same (suc zero) (suc (suc g)) h k e = absurd (omega arith)
+family-same (suc (suc f)) g h k e = absurd (omega arith)
+
+pub says-same : (line : List ℕ) (from : ℕ) (p q : Plan) → Says line from p → Says line from q → p ≡ q
+unfolding Says
+says-same line from (halton f bases) (halton g others) s t =
+    let e = family-same f g (s .0) (t .0) (sym (s .1 .named) ∙ t .1 .named) in
+    let long : length bases ≡ length others = sym (s .1 .count) ∙ t .1 .count in
+    let b : bases ≡ others =
+    ext-getD 0 bases others long (λ i h. value-same (wordAt line (axesFrom line from) i) (s .2 i h) (t .2 i (omega arith))) in
+    λ i. halton (e i) (b i)
+says-same line from (halton f bases) (sobol axes) s t = absurd (not-sobol f (s .0) (sym (s .1 .named) ∙ t .0 .named))
+says-same line from (sobol axes) (halton f bases) s t = absurd (not-sobol f (t .0) (sym (t .1 .named) ∙ s .0 .named))
+says-same line from (sobol axes) (sobol others) s t =
+    let long : length axes ≡ length others = sym (s .0 .count) ∙ t .0 .count in
+    let a : axes ≡ others =
+    ext-getD noAxis axes others long (λ i h. axis-same (getD axes i noAxis) (getD others i noAxis) (s .1 i h) (t .1 i (omega arith))) in
+    λ i. sobol (a i)

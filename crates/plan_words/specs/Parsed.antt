@@ -50,12 +50,14 @@ pub data Unspelled (line : List ℕ) (from : ℕ) : ℕ → ℕ → Type 0 where
 pub record Unsaid (code : ℕ) (r : PlanSaid) : Type 0 where
   pub number : r .fault .code ≡ code
   pub axis : r .fault .axis ≡ 0
+  pub none : r .axes ≡ 0
   pub bases : r .bases ≡ replicate 6 0
   pub polynomials : r .polynomials ≡ replicate 6 0
   pub ms : r .ms ≡ replicate 72 0
 
 -- code 0, and the words say the plan that the arrays hold; or a word is at fault
 pub record Parsed (line : List ℕ) (from : ℕ) (r : PlanSaid) : Type 0 where
+  pub few : r .axes ≤ 6
   pub size : length (r .bases) ≡ 6
   pub size-polynomials : length (r .polynomials) ≡ 6
   pub size-ms : length (r .ms) ≡ 72

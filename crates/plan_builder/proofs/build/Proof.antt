@@ -35,7 +35,7 @@ returns-2 c =
     let p = i .before .before in
     let said : p .parse .result .fault .code ≡ 0 = omega (arith, i .if1 .left) in
     let wrong : k .check .result .code ≡ 0 → ⊥ = λ z. omega arith in
-    with-length (Outcome.unsound _ _ _ _ _ (p .parse .ensures .spelled said) (k .check .ensures) wrong (p .parse .ensures .size))
+    with-length (Outcome.unsound _ _ _ _ _ (p .parse .ensures .spelled said) (k .check .ensures) wrong (p .parse .ensures .few) (p .parse .ensures .size))
 
 slice-aggregate-write-plan : tie.Need-slice-aggregate-write-plan
 slice-aggregate-write-plan c = search needs
