@@ -1,0 +1,2 @@
+-- Laws of plans built from words.
+pub mod BuildLaws

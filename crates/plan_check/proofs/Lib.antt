@@ -1,0 +1,2 @@
+-- Laws of what is wrong with a plan that arrays hold.
+pub mod FoundLaws
