@@ -10,11 +10,11 @@ ghost use Rattle.axis_words.specs.Parsed.{NumberRead, Kept, MsRead, Give
 
 // The faults of words, after the numbers of the refusals and plan_check's own.
 // neither `0` nor P:M,M,..
-pub const NOT_AN_AXIS: u64 = 18;
+pub const NOT_AN_AXIS: u64 = 103;
 // not as many m's as the degree
-pub const WRONG_COUNT: u64 = 19;
+pub const WRONG_COUNT: u64 = 104;
 // an m that is no decimal number
-pub const NOT_A_NUMBER: u64 = 20;
+pub const NOT_A_NUMBER: u64 = 105;
 
 // Whether a word is a decimal number that fits 64 bits, and the number.
 pub struct Numeral {

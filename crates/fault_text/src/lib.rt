@@ -194,10 +194,10 @@ fn say_axis(out: &mut [u8], at: usize, f: Fault) -> usize
             say(out, a, b" is not primitive")
         }
         9 => say_twin(out, at, f),
-        17 => say(out, at, b"expected a base in decimal, 2 to 256"),
-        18 => say(out, at, b"expected 0 or P:M,M,.. in decimal"),
-        19 => say_count(out, at, f),
-        20 => {
+        102 => say(out, at, b"expected a base in decimal, 2 to 256"),
+        103 => say(out, at, b"expected 0 or P:M,M,.. in decimal"),
+        104 => say_count(out, at, f),
+        105 => {
             let a = say(out, at, b"expected m_");
             let b = say_number(out, a, f.place as u64);
             say(out, b, b" in decimal")

@@ -1,13 +1,13 @@
-// A job text, line by line: what the programs share. A line `plan HEX` puts a plan in force, a line `run START COUNT` opens a run of it, and a
+// A job text, line by line: what the programs share. A line `plan ..` puts a plan in force, a line `run START COUNT` opens a run of it, and a
 // line `axes X Y` names two axes to draw; the state that they leave, and the errors, which are lines of the output.
 mod axes;
-mod plan;
+mod plans;
 mod report;
 mod run;
 
 pub use axes::axes_line;
 use lines::Lines;
-pub use plan::plan_line;
+pub use plans::plan_line;
 pub use report::end;
 pub use report::end_number;
 pub use report::error;

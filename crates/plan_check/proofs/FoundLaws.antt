@@ -198,7 +198,7 @@ module _ (ps ms : List ℕ) (i d j k : ℕ) (e : d ≡ degreeOf (getD ps i 0)) (
     pub axis-even : getD ms (12 * i + k) 0 % 2 ≡ 0 → AxisFound ps ms i (faultAt 8 (i + 1) (k + 1) (getD ms (12 * i + k) 0) 0)
     axis-even z = AxisFound.even k f first-new short (rw e at g) z
 
-    pub axis-large : getD ms (12 * i + k) 0 % 2 ≡ 1 → AxisFound ps ms i (faultAt 16 (i + 1) (k + 1) (getD ms (12 * i + k) 0) 0)
+    pub axis-large : getD ms (12 * i + k) 0 % 2 ≡ 1 → AxisFound ps ms i (faultAt 101 (i + 1) (k + 1) (getD ms (12 * i + k) 0) 0)
     axis-large o =
         let m = getD ms (12 * i + k) 0 in
         let high : 2 ^ (k + 1) ≤ m =

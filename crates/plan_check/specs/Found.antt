@@ -56,7 +56,7 @@ pub data PolynomialFound (p : ℕ) : ℕ → Type 0 where
   high : 2 ^ 13 ≤ p → PolynomialFound p 6
   nonPrimitive : p < 2 ^ 13 → (FitPolynomial p → ⊥) → PolynomialFound p 7
 
--- axis i: its polynomial; 9 (twin) with the first axis that has the polynomial too; then the first m that is even, 8, or too large, 16
+-- axis i: its polynomial; 9 (twin) with the first axis that has the polynomial too; then the first m that is even, 8, or too large, 101
 pub data AxisFound (ps ms : List ℕ) (i : ℕ) : Fault → Type 0 where
   sound : FitPolynomial (getD ps i 0) → FirstNot (NewAt ps i) i i → FirstNot (GivenAt ms i) (degreeOf (getD ps i 0)) (degreeOf (getD ps i 0))
       → AxisFound ps ms i noFault
@@ -68,7 +68,7 @@ pub data AxisFound (ps ms : List ℕ) (i : ℕ) : Fault → Type 0 where
       → AxisFound ps ms i (faultAt 8 (i + 1) (k + 1) (getD ms (12 * i + k) 0) 0)
   large : (k : ℕ) → FitPolynomial (getD ps i 0) → FirstNot (NewAt ps i) i i → k < degreeOf (getD ps i 0)
       → FirstNot (GivenAt ms i) (degreeOf (getD ps i 0)) k → 2 ^ (k + 1) ≤ getD ms (12 * i + k) 0
-      → AxisFound ps ms i (faultAt 16 (i + 1) (k + 1) (getD ms (12 * i + k) 0) 0)
+      → AxisFound ps ms i (faultAt 101 (i + 1) (k + 1) (getD ms (12 * i + k) 0) 0)
 
 -- n axes
 pub data AxesFound (ps ms : List ℕ) (n : ℕ) : Fault → Type 0 where

@@ -5,8 +5,8 @@ ghost use Prim.Native.Nat.{_+_, _*_, _<_, _≤_};
 ghost use lib.ListN.{length};
 ghost use Rattle.plan_check.specs.Found.{faultAt, FirstNot, CoprimeAt, BasesFound, NewAt, GivenAt, PolynomialFound, AxisFound, AxesFound, Found};
 
-// A given m_i that is not below 2^i. No bytes spell one, so no refusal of a reading has this number.
-pub const LARGE_NUMBER: u64 = 16;
+// A given m_i that is not below 2^i. No bytes spell one, so this is the number of no refusal; nor are those from 102 on, of words that spell nothing.
+pub const LARGE_NUMBER: u64 = 101;
 
 // The number of a refusal, or 0; the axis and the place at fault, from 1; the value that is wrong, and the one that it meets. What a
 // refusal does not have is 0.

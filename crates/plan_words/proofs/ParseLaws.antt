@@ -71,7 +71,7 @@ module _ {line : List ℕ} {from : ℕ} {bases : List ℕ} {i : ℕ} (s : BasesS
             (e ∙ ap Value (sym (getD-set-same bases i v 0 (omega (arith, s .size)))));
       }
 
-  pub base-wrong : (n : ℕ) → i < n → ((b : ℕ) → numberOf (wordAt line from i) ≡ Value b → ⊥) → BasesRead line from n (faultAt 17 (i + 1) 0 0 0) bases
+  pub base-wrong : (n : ℕ) → i < n → ((b : ℕ) → numberOf (wordAt line from i) ≡ Value b → ⊥) → BasesRead line from n (faultAt 102 (i + 1) 0 0 0) bases
   unfolding NoBase
   base-wrong n h no-number =
       record { size = s .size; spelled = λ z. absurd (omega arith); refused = λ z. (refl, (i, refl, h, no-number)) }

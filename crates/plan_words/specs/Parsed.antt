@@ -24,11 +24,11 @@ NoBase line from i = (b : ℕ) → numberOf (wordAt line from i) ≡ Value b →
 unfoldable pub NoAxis : List ℕ → ℕ → ℕ → Type 0
 NoAxis line from i = (x : Axis) → AxisWord (wordAt line from i) x → ⊥
 
--- n words are these bases; or the code is 17, and this axis's word is no base
+-- n words are these bases; or the code is 102, and this axis's word is no base
 pub record BasesRead (line : List ℕ) (from n : ℕ) (f : Fault) (bases : List ℕ) : Type 0 where
   pub size : length bases ≡ 6
   pub spelled : f .code ≡ 0 → (i : ℕ) → i < n → numberOf (wordAt line from i) ≡ Value (getD bases i 0)
-  pub refused : (f .code ≡ 0 → ⊥) → (f .code ≡ 17) × ((i : ℕ) × (f .axis ≡ i + 1) × (i < n) × NoBase line from i)
+  pub refused : (f .code ≡ 0 → ⊥) → (f .code ≡ 102) × ((i : ℕ) × (f .axis ≡ i + 1) × (i < n) × NoBase line from i)
 
 -- n words are the axes that the arrays hold; or the code is not 0, and this axis's word is no axis
 pub record AxesRead (line : List ℕ) (from n : ℕ) (f : Fault) (ps ms : List ℕ) : Type 0 where
@@ -37,12 +37,12 @@ pub record AxesRead (line : List ℕ) (from n : ℕ) (f : Fault) (ps ms : List �
   pub spelled : f .code ≡ 0 → (i : ℕ) → i < n → AxisWord (wordAt line from i) (axisAt ps ms i)
   pub refused : (f .code ≡ 0 → ⊥) → (i : ℕ) × (f .axis ≡ i + 1) × (i < n) × NoAxis line from i
 
--- the word at fault, which spells nothing: of the family, 2; their number, 3; or, with its axis, a base, 17, or a Sobol axis
+-- the word at fault, which spells nothing: of the family, 2; their number, 3; or, with its axis, a base, 102, or a Sobol axis
 pub data Unspelled (line : List ℕ) (from : ℕ) : ℕ → ℕ → Type 0 where
   badFamily : ((f : ℕ) → f < families → wordText line from ≡ familyWord f → ⊥) → Unspelled line from 2 0
   badCount : (OneToSix (axesSaid line from) → ⊥) → Unspelled line from 3 0
   badBase : (family i : ℕ) → family < 2 → wordText line from ≡ familyWord family → i < axesSaid line from → NoBase line (axesFrom line from) i
-      → Unspelled line from 17 (i + 1)
+      → Unspelled line from 102 (i + 1)
   badAxis : (code i : ℕ) → wordText line from ≡ familyWord 2 → i < axesSaid line from → NoAxis line (axesFrom line from) i
       → Unspelled line from code (i + 1)
 

@@ -6,10 +6,10 @@ ghost use lib.ListN.{length};
 ghost use Rattle.plan_words.specs.Parsed.{FamilyRead, BasesRead, AxesRead, Unsaid, Parsed};
 
 // A base that is no decimal number.
-pub const NOT_A_BASE: u64 = 17;
+pub const NOT_A_BASE: u64 = 102;
 
 // The family that a word names; 4 where it names none.
-fn family_of(word: &[u8]) -> u64
+pub fn family_of(word: &[u8]) -> u64
     ensures { λ r. ⌜ FamilyRead (now (word .entry)) r ⌝ }
 {
     if check::same(word, b"halton") {
