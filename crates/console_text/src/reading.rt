@@ -47,9 +47,9 @@ fn put_word(l: Lines, out: &mut [u8], before: &[u8], place: usize, after: &[u8])
 
 // Puts how many words a line has after the first.
 fn put_count(l: Lines, out: &mut [u8], words: usize) -> Lines {
-    let a = lines::put(l, out, b", got ");
+    let a = lines::put(l, out, b", but the number of words after the first is ");
     let b = lines::put_number(a, out, words as u64);
-    lines::put(b, out, b" words after the first\n")
+    lines::put(b, out, b"\n")
 }
 
 // Puts what is wrong with a line's numbers.

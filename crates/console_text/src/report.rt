@@ -69,12 +69,8 @@ pub fn no_room(c: Console, out: &mut [u8]) -> Console
 pub fn not_hex(c: Console, out: &mut [u8], place: usize) -> Console
     ensures { λ r. ⌜ r .state ≡ c .state ⌝ }
 {
-    let a = expected(
-        c,
-        out,
-        b"hexadecimal digits, got another character as number ",
-    );
+    let a = expected(c, out, b"hexadecimal digits, but character ");
     let b = lines::put_number(a, out, std::num::wrapping_add_u64(place as u64, 1));
-    let d = lines::put(b, out, b" of HEX\n");
+    let d = lines::put(b, out, b" of HEX is another\n");
     with_lines(c, d)
 }
