@@ -1,0 +1,45 @@
+-- The console has the state of the call's answer. Assumes nothing.
+use mathlib.Core.Path.{ap, _∙_}
+use Rattle.calls.specs.declared.Blocked.{Blocked}
+use borrow.Author.Needs.{needs}
+use Rattle.console_calls.proofs.block.Statement.{statement}
+use Rattle.console_calls.proofs.block.Tie as tie
+
+block-requires : tie.Need-block-requires
+block-requires c κs = search needs
+
+slice-aggregate-answer : tie.Need-slice-aggregate-answer
+slice-aggregate-answer c = search needs
+
+slice-aggregate-answer-2 : tie.Need-slice-aggregate-answer-2
+slice-aggregate-answer-2 c = search needs
+
+answer-requires : tie.Need-answer-requires
+answer-requires c κs = search needs
+
+with-requires : tie.Need-with-requires
+with-requires c κs = search needs
+
+same-length : tie.Need-same-length
+same-length c = search needs
+
+same-length-2 : tie.Need-same-length-2
+same-length-2 c = search needs
+
+returns : tie.Need-returns
+returns c =
+    let e = c .before .before .before .before .before .before .before .before .before .before .before .block .ensures in
+    (c .with .ensures ∙ ap (λ (m : Blocked). m .state) (e .0), e .1)
+
+pub block-spec : {M : Type 1} → statement M
+block-spec =
+    tie.close
+    (tie.spec
+    block-requires
+    slice-aggregate-answer
+    slice-aggregate-answer-2
+    answer-requires
+    with-requires
+    same-length
+    same-length-2
+    returns)

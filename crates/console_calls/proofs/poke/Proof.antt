@@ -1,0 +1,42 @@
+-- The console has the state of the call's answer. Assumes nothing.
+use mathlib.Core.Path.{_∙_}
+use borrow.Author.Needs.{needs}
+use Rattle.console_calls.proofs.poke.Statement.{statement}
+use Rattle.console_calls.proofs.poke.Tie as tie
+
+poke-requires : tie.Need-poke-requires
+poke-requires c κs = search needs
+
+slice-aggregate-answer : tie.Need-slice-aggregate-answer
+slice-aggregate-answer c = search needs
+
+slice-aggregate-answer-2 : tie.Need-slice-aggregate-answer-2
+slice-aggregate-answer-2 c = search needs
+
+slice-aggregate-answer-3 : tie.Need-slice-aggregate-answer-3
+slice-aggregate-answer-3 c = search needs
+
+answer-requires : tie.Need-answer-requires
+answer-requires c κs = search needs
+
+with-requires : tie.Need-with-requires
+with-requires c κs = search needs
+
+same-length : tie.Need-same-length
+same-length c = search needs
+
+returns : tie.Need-returns
+returns c = c .with .ensures ∙ c .before .before .before .before .before .before .before .before .poke .ensures
+
+pub poke-spec : {M : Type 1} → statement M
+poke-spec =
+    tie.close
+    (tie.spec
+    poke-requires
+    slice-aggregate-answer
+    slice-aggregate-answer-2
+    slice-aggregate-answer-3
+    answer-requires
+    with-requires
+    same-length
+    returns)

@@ -1,0 +1,82 @@
+// The numbers of a line.
+use crate::Console;
+use crate::report::expected;
+use crate::with_lines;
+use lines::Lines;
+use words::Number;
+ghost use mathlib.Core.Path.{_≡_};
+
+// The numbers are read; or the line has another number of words, or the word at a place from 0 is no number or one above 2^64 - 1.
+pub enum Numbers {
+    Read,
+    Words(usize),
+    NoNumber(usize),
+    TooLarge(usize),
+}
+
+// Reads the words of the rest of a line as numbers, as many as `out` has room for.
+pub fn read_numbers(rest: &[u8], out: &mut [u64]) -> Numbers {
+    let k = words::count(rest, 0);
+    if k != out.len() {
+        return Numbers::Words(k);
+    }
+    let mut at = 0;
+    let mut i = 0;
+    while i < out.len() {
+        let w = words::find(rest, at);
+        let start = w.start;
+        let end = w.end;
+        let number = words::decimal(&rest[start..end]);
+        match number {
+            Number::Value(v) => out[i] = v,
+            Number::NoNumber => return Numbers::NoNumber(i),
+            Number::TooLarge => return Numbers::TooLarge(i),
+        }
+        at = end;
+        i += 1;
+    }
+    Numbers::Read
+}
+
+// Puts a text, the number of a word after the first, whose place is counted from 0, and another text.
+fn put_word(l: Lines, out: &mut [u8], before: &[u8], place: usize, after: &[u8]) -> Lines {
+    let a = lines::put(l, out, before);
+    let b = lines::put_number(a, out, std::num::wrapping_add_u64(place as u64, 2));
+    lines::put(b, out, after)
+}
+
+// Puts how many words a line has after the first.
+fn put_count(l: Lines, out: &mut [u8], words: usize) -> Lines {
+    let a = lines::put(l, out, b", but the number of words after the first is ");
+    let b = lines::put_number(a, out, words as u64);
+    lines::put(b, out, b"\n")
+}
+
+// Puts what is wrong with a line's numbers.
+fn put_wrong(l: Lines, out: &mut [u8], n: Numbers) -> Lines {
+    if let Numbers::Words(k) = n {
+        return put_count(l, out, k);
+    }
+    if let Numbers::NoNumber(i) = n {
+        return put_word(l, out, b", but word ", i, b" is no decimal number\n");
+    }
+    if let Numbers::TooLarge(i) = n {
+        return put_word(
+            l,
+            out,
+            b", but word ",
+            i,
+            b" is above 18446744073709551615\n",
+        );
+    }
+    lines::put(l, out, b"\n")
+}
+
+// A line whose numbers were not read: its form, and what is wrong.
+pub fn misread(c: Console, out: &mut [u8], form: &[u8], n: Numbers) -> Console
+    ensures { λ r. ⌜ r .state ≡ c .state ⌝ }
+{
+    let l = expected(c, out, form);
+    let end = put_wrong(l, out, n);
+    with_lines(c, end)
+}

@@ -1,0 +1,78 @@
+// A state as a row of words, in the struct's order: to show it, and to set any word of it.
+use sampler::Sampler;
+ghost use mathlib.Core.Path.{_≡_};
+ghost use Prim.Native.Nat.{_+_, _<_, _≤_};
+ghost use lib.ListN.{length};
+ghost use Rattle.state_words.specs.Words.{wordsOf, part, stateOf, poked};
+
+// How many words a state has.
+pub const WORDS: usize = 215;
+
+// Every word of a state.
+pub fn words_of(s: Sampler) -> [u64; 215]
+    ensures { λ r. ⌜ r ≡ wordsOf s ⌝ }
+{
+    let front = [s.family, s.axes as u64];
+    let bases = s.bases;
+    let polynomials = s.polynomials;
+    let directions = s.directions;
+    let run = [s.start, s.count, s.taken];
+    let numerators = s.numerators;
+    let mut words = [0u64; 215];
+    bits::store(&mut words, 0, &front);
+    bits::store(&mut words, 2, &bases);
+    bits::store(&mut words, 8, &polynomials);
+    bits::store(&mut words, 14, &directions);
+    bits::store(&mut words, 206, &run);
+    bits::store(&mut words, 209, &numerators);
+    words
+}
+
+// Six words from a place on.
+fn six(words: &[u64], at: usize) -> [u64; 6]
+    requires { ⌜ at + 6 ≤ length (now words) ⌝ }
+    ensures { λ r. ⌜ r ≡ part (now (words .entry)) at 6 ⌝ }
+{
+    let end = at + 6;
+    let mut row = [0u64; 6];
+    bits::store(&mut row, 0, &words[at..end]);
+    row
+}
+
+// The direction numbers' words.
+fn table(words: &[u64]) -> [u64; 192]
+    requires { ⌜ length (now words) ≡ 215 ⌝ }
+    ensures { λ r. ⌜ r ≡ part (now (words .entry)) 14 192 ⌝ }
+{
+    let mut row = [0u64; 192];
+    bits::store(&mut row, 0, &words[14..206]);
+    row
+}
+
+// The state that has these words.
+fn state_of(words: &[u64]) -> Sampler
+    requires { ⌜ length (now words) ≡ 215 ⌝ }
+    ensures { λ r. ⌜ r ≡ stateOf (now (words .entry)) ⌝ }
+{
+    Sampler {
+        family: words[0],
+        axes: words[1] as usize,
+        bases: six(words, 2),
+        polynomials: six(words, 8),
+        directions: table(words),
+        start: words[206],
+        count: words[207],
+        taken: words[208],
+        numerators: six(words, 209),
+    }
+}
+
+// The state with a word set, by its place from 0.
+pub fn poke(s: Sampler, place: usize, value: u64) -> Sampler
+    requires { ⌜ place < 215 ⌝ }
+    ensures { λ r. ⌜ r ≡ poked s place value ⌝ }
+{
+    let mut words = words_of(s);
+    words[place] = value;
+    state_of(&words)
+}

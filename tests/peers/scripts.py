@@ -1,0 +1,124 @@
+"""Random scripts for the console: plans of all families, valid and slightly wrong, and every line, with what the reference answers."""
+import plans
+import states
+import windows
+from console import Console
+from reference import Refused
+
+
+def script(rng, turns):
+    """Lines, and what each answers. The reference goes along, so that the lines suit its state."""
+    console, lines, answers = Console(), [], []
+    for _ in range(turns):
+        for line in session(rng, console):
+            lines.append(line)
+            answers.append(console.answer(line))
+    return lines, answers
+
+
+def session(rng, console):
+    """A plan, a run of it, and calls on them; in some sessions words of the state are set first."""
+    data = plans.valid(rng) if rng.random() < 0.7 else plans.random_string(rng)
+    yield text("read", data.hex() if rng.random() < 0.5 else data.hex().upper())
+    yield opening(rng)
+    for _ in range(rng.randint(0, 3)):
+        yield call(rng, console)
+    if rng.random() < 0.3:
+        yield poke(rng, console)
+    for _ in range(rng.randint(1, 12)):
+        yield call(rng, console)
+    if rng.random() < 0.2:
+        yield text("state")
+
+
+def text(*words):
+    return " ".join(map(str, words)).encode()
+
+
+def opening(rng):
+    """A short run anywhere, one about the last index, a long one, or one that is too long."""
+    count = rng.choice((rng.randint(0, 9), rng.randint(0, 300), rng.randint(0, 3)))
+    start, long = rng.choice((0, plans.random_index(rng), 2**32 - count)), rng.choice((2**31, 2**32, 2**32 - 5))
+    wrong_start, wrong_count = windows.wrong_run(rng)
+    run = rng.choice(((count, min(start, 2**32 - count)),) * 6 + ((long, 2**32 - long), (wrong_count, wrong_start)))
+    return text("open", *run)
+
+
+def call(rng, console):
+    kind = rng.choice((jump, jump, step, step, step, block, second, count, count, write, opening_again, wrong_line))
+    return kind(rng, console)
+
+
+def room(rng):
+    return rng.choice((0, 6, 6, rng.randint(0, 7), rng.randint(0, 40), rng.randint(0, 400)))
+
+
+def index(rng):
+    return rng.choice((plans.random_index(rng), plans.random_index(rng), 2**32 - 1, 2**32, rng.randrange(2**64)))
+
+
+def jump(rng, console):
+    return text("jump", index(rng), room(rng))
+
+
+def step(rng, console):
+    return text(rng.choice(("step", "place")), room(rng))
+
+
+def block(rng, console):
+    return text("block", room(rng))
+
+
+def second(rng, console):
+    return text("second", index(rng))
+
+
+def write(rng, console):
+    return text("write", rng.choice((0, 71, rng.randint(0, 80))))
+
+
+def reading(rng, console):
+    return text("read", plans.valid(rng).hex())
+
+
+def opening_again(rng, console):
+    return opening(rng)
+
+
+def count(rng, console):
+    """A window over a run that is short enough for the reference, some of them wrong; else one that any state refuses."""
+    start, n, _ = states.run_in(console.state)
+    try:
+        plan = states.genuine_plan(console.state)
+    except Refused:
+        plan = plans.random_plan(rng)
+        return text("count", *(x for _ in plan.axes for x in (1, rng.randint(1, 9))))
+    if n > 400:
+        return text("count", *([1, 2] * len(plan.axes) + [1]))
+    window = [x for cut in windows.random_cuts(rng, plan, start, n) for x in cut]
+    if rng.random() < 0.3:
+        window[rng.randrange(len(window))] = rng.choice((0, 2**24, 2**24 + 1, 2**64 - 1))
+    if rng.random() < 0.1:
+        window = window[: rng.randrange(len(window))]
+    return text("count", *window)
+
+
+def poke(rng, console):
+    """Sets a word of the state to what it is, to its neighbour's value, beside it, or to anything."""
+    place = rng.choice((rng.randrange(215), rng.randrange(14), rng.randrange(206, 215), rng.randrange(14, 46)))
+    word = console.state[place]
+    values = (word, console.state[place - 1], (word + 1) % 2**64, max(word - 1, 0), word ^ 1 << rng.randrange(64), 0, rng.randrange(2**64))
+    return text("poke", place, rng.choice(values))
+
+
+def wrong_line(rng, console):
+    """A line with a byte changed, cut or put in, or one in which all is well: a comment, blanks."""
+    line = bytearray(call_line(rng, console))
+    place = rng.randrange(len(line))
+    line[place : place + rng.randint(0, 1)] = rng.choice((b"", b"#", b" ", b"\t", b"x", b"9", b"\r", b"\xff", b"\0"))
+    return bytes(line)
+
+
+def call_line(rng, console):
+    """A call whose numbers may grow a digit and still be answered in no time."""
+    return rng.choice((reading, jump, step, second, write))(rng, console)

@@ -1,0 +1,62 @@
+"""The words of a sampler's state, in the struct's order: family, axes, 6 bases, 6 polynomials, 32 direction numbers for each of 6 axes, start,
+count, taken, and the 6 numerators of the next point. Which are there is read off 01 and the struct's comment; it shares nothing with the crates."""
+import plans
+import reference
+from reference import INDEXES, SOBOL, Axis, Plan, Refused
+
+WORDS = 215
+BLANK = (0,) * WORDS
+RUN = 206  # where start, count and taken are
+
+
+def padded(words, length):
+    return tuple(words) + (0,) * (length - len(words))
+
+
+def polynomial(axis):
+    """x^d + a_1 x^(d-1) + .. + 1 as a number; 1 for degree 0."""
+    return int("1" + "".join(map(str, axis.coefficients)) + "1", 2) if axis.degree else 1
+
+
+def made(plan, start, count, taken):
+    """The state of a plan and a run, so many of whose points are taken."""
+    is_sobol = plan.family == SOBOL
+    bases = () if is_sobol else plan.axes
+    polynomials = [polynomial(axis) for axis in plan.axes] if is_sobol else ()
+    directions = [v for axis in plan.axes for v in reference.direction_numbers(axis)] if is_sobol else ()
+    numerators = reference.point(plan, start + taken) if taken < count else ()
+    head = (plan.family, len(plan.axes)) + padded(bases, 6) + padded(polynomials, 6) + padded(directions, 192)
+    return head + (start, count, taken) + padded(numerators, 6)
+
+
+def run_in(words):
+    return words[RUN : RUN + 3]
+
+
+def plan_in(words):
+    """The plan that a state's words claim to hold; it is refused if no reading accepts it."""
+    family, count = words[:2]
+    reference.refuse_if(family > 2 or not 1 <= count <= 6, 15)
+    axes = [sobol_axis(words, i) for i in range(count)] if family == SOBOL else words[2 : 2 + count]
+    reference.refuse_if(family != SOBOL and not all(2 <= base <= 256 for base in axes), 15)
+    return reference.read(plans.bytes_of(Plan(family, tuple(axes))))
+
+
+def sobol_axis(words, i):
+    p = words[8 + i]
+    degree = p.bit_length() - 1
+    reference.refuse_if(not 0 <= degree <= 12 or p % 2 == 0, 15)
+    m = tuple(words[14 + 32 * i + j] >> (31 - j) for j in range(degree))
+    reference.refuse_if(any(x >> (j + 1) for j, x in enumerate(m)), 15)
+    return Axis(degree, tuple(p >> j & 1 for j in range(degree - 1, 0, -1)), m)
+
+
+def genuine_plan(words):
+    """The plan of a state that accepted calls leave; any other state is refused by 15."""
+    start, count, taken = run_in(words)
+    try:
+        plan = plan_in(words)
+    except Refused:
+        raise Refused(15) from None
+    reference.refuse_if(start + count > INDEXES or taken > count or made(plan, start, count, taken) != words, 15)
+    return plan
