@@ -1,4 +1,6 @@
-"""Compares the console's answers with the reference's: on the stored tests, and on random scripts. Usage: compare_console.py CONSOLE SEED."""
+"""Compares the console's answers with the reference's, on the stored tests and on random scripts, and tries how its input and output end.
+
+Usage: compare_console.py CONSOLE SEED."""
 import random
 import subprocess
 import sys
@@ -28,6 +30,25 @@ def stored(program):
     for folder in ("console", "console_marked"):
         script = Path("crates", folder, "stdin").read_bytes()
         compare(folder, b"", run(program, script), console.answers(script).split("\n"))
+
+
+def ends(program):
+    """A line is answered before the next is there; an input that cannot be read and an output that cannot be written are said."""
+    with subprocess.Popen([program], stdin=subprocess.PIPE, stdout=subprocess.PIPE) as talk:
+        for line, answer in ((b"read 0808\n", b"read 0\n"), (b"jump 6 1\n", b"jump 0 1610612736\n")):
+            talk.stdin.write(line)
+            talk.stdin.flush()
+            if talk.stdout.readline() != answer:
+                sys.exit(f"{line} is not answered at once by {answer}")
+        talk.stdin.close()
+    with open("/dev/full", "wb") as full:
+        said = subprocess.run([program], input=b"state\n", stdout=full, stderr=subprocess.PIPE, check=True).stderr
+    if said != b"the output is not whole: a write failed\n":
+        sys.exit(f"a failed write is said by {said}")
+    with open("/proc/self/mem", "rb") as unreadable:
+        said = subprocess.run([program], stdin=unreadable, stdout=subprocess.PIPE, check=True).stdout
+    if said != b"the input could not be read to its end\n":
+        sys.exit(f"an input that cannot be read is said by {said}")
 
 
 def random_scripts(program, rng):
@@ -60,6 +81,7 @@ def main():
     program, seed = sys.argv[1], sys.argv[2]
     print(f"console: seed {seed}")
     stored(program)
+    ends(program)
     met = random_scripts(program, random.Random(seed))
     for name, codes in EVERY.items():
         for code in codes:

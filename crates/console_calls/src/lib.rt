@@ -10,6 +10,7 @@ ghost use Rattle.state_words.specs.Words.{poked};
 
 // ---- on a plan
 
+// A plan's bytes: the state that reading them leaves.
 pub fn read(c: Console, out: &mut [u8], bytes: &[u8]) -> Console
     ensures { λ r. ⌜ r .state ≡ readSpec (now (bytes .entry)) .state ⌝ }
 {
@@ -19,6 +20,7 @@ pub fn read(c: Console, out: &mut [u8], bytes: &[u8]) -> Console
     console_text::with(c, lines, state)
 }
 
+// The plan's bytes, into lent ones; the state stays.
 pub fn write(c: Console, out: &mut [u8], bytes: &mut [u8]) -> Console
     ensures { λ r. ⌜ (r .state ≡ c .state) × (now (bytes .exit) ≡ writeBuf (c .state) (now (bytes .entry))) ⌝ }
 {
@@ -28,6 +30,7 @@ pub fn write(c: Console, out: &mut [u8], bytes: &mut [u8]) -> Console
     console_text::with(c, lines, state)
 }
 
+// The state with this run.
 pub fn open(c: Console, out: &mut [u8], count: u64, start: u64) -> Console
     ensures { λ r. ⌜ r .state ≡ openSpec (c .state) (runOf start count) .state ⌝ }
 {
@@ -39,6 +42,7 @@ pub fn open(c: Console, out: &mut [u8], count: u64, start: u64) -> Console
 
 // ---- on an index
 
+// The point of an index, into lent words; the state stays.
 pub fn jump(c: Console, out: &mut [u8], index: u64, words: &mut [u64]) -> Console
     ensures { λ r. ⌜ (r .state ≡ c .state) × (now (words .exit) ≡ jumpBuf (c .state) index (now (words .entry))) ⌝ }
 {
@@ -48,6 +52,7 @@ pub fn jump(c: Console, out: &mut [u8], index: u64, words: &mut [u64]) -> Consol
     console_text::with(c, lines, state)
 }
 
+// The second of the day of an index; the state stays.
 pub fn second(c: Console, out: &mut [u8], index: u64) -> Console
     ensures { λ r. ⌜ r .state ≡ c .state ⌝ }
 {
@@ -59,6 +64,7 @@ pub fn second(c: Console, out: &mut [u8], index: u64) -> Console
 
 // ---- on a run
 
+// The run's next point, into lent words: the state moved on.
 pub fn step(c: Console, out: &mut [u8], words: &mut [u64]) -> Console
     ensures { λ r. ⌜ (r .state ≡ stepSpec (c .state) (now (words .entry)) .state) × (now (words .exit) ≡ stepBuf (c .state) (now (words .entry))) ⌝ }
 {
@@ -68,7 +74,7 @@ pub fn step(c: Console, out: &mut [u8], words: &mut [u64]) -> Console
     console_text::with(c, lines, state)
 }
 
-// A step in place.
+// The same by a step in place.
 pub fn place(c: Console, out: &mut [u8], words: &mut [u64]) -> Console
     ensures { λ r. ⌜ (r .state ≡ stepSpec (c .state) (now (words .entry)) .state) × (now (words .exit) ≡ stepBuf (c .state) (now (words .entry))) ⌝ }
 {
@@ -78,6 +84,7 @@ pub fn place(c: Console, out: &mut [u8], words: &mut [u64]) -> Console
     console_text::with(c, lines, state)
 }
 
+// As many points as are left and fit, into lent words: the state moved on.
 pub fn block(c: Console, out: &mut [u8], words: &mut [u64]) -> Console
     ensures { λ r. ⌜ (r .state ≡ blockSpec (c .state) (now (words .entry)) .state) × (now (words .exit) ≡ blockBuf (c .state) (now (words .entry))) ⌝ }
 {
@@ -89,6 +96,7 @@ pub fn block(c: Console, out: &mut [u8], words: &mut [u64]) -> Console
 
 // ---- on a window
 
+// How many points of the run are inside a window, and the bound; the state stays.
 pub fn count(c: Console, out: &mut [u8], window: &[u64]) -> Console
     ensures { λ r. ⌜ r .state ≡ c .state ⌝ }
 {
@@ -100,7 +108,7 @@ pub fn count(c: Console, out: &mut [u8], window: &[u64]) -> Console
 
 // ---- the state itself
 
-// Every word of the state.
+// Every word of the state, which stays.
 pub fn show(c: Console, out: &mut [u8]) -> Console
     ensures { λ r. ⌜ r .state ≡ c .state ⌝ }
 {

@@ -5,17 +5,20 @@ use crate::with_lines;
 use lines::Lines;
 use words::Number;
 ghost use mathlib.Core.Path.{_≡_};
+ghost use Rattle.console_text.specs.Reading.{NumbersRead};
 
 // The numbers are read; or the line has another number of words, or the word at a place from 0 is no number or one above 2^64 - 1.
 pub enum Numbers {
     Read,
     Words(usize),
-    NoNumber(usize),
-    TooLarge(usize),
+    NotNumber(usize),
+    Large(usize),
 }
 
 // Reads the words of the rest of a line as numbers, as many as `out` has room for.
-pub fn read_numbers(rest: &[u8], out: &mut [u64]) -> Numbers {
+pub fn read_numbers(rest: &[u8], out: &mut [u64]) -> Numbers
+    ensures { λ r. ⌜ NumbersRead (now (rest .entry)) (now (out .entry)) r (now (out .exit)) ⌝ }
+{
     let k = words::count(rest, 0);
     if k != out.len() {
         return Numbers::Words(k);
@@ -29,8 +32,8 @@ pub fn read_numbers(rest: &[u8], out: &mut [u64]) -> Numbers {
         let number = words::decimal(&rest[start..end]);
         match number {
             Number::Value(v) => out[i] = v,
-            Number::NoNumber => return Numbers::NoNumber(i),
-            Number::TooLarge => return Numbers::TooLarge(i),
+            Number::NoNumber => return Numbers::NotNumber(i),
+            Number::TooLarge => return Numbers::Large(i),
         }
         at = end;
         i += 1;
@@ -57,10 +60,10 @@ fn put_wrong(l: Lines, out: &mut [u8], n: Numbers) -> Lines {
     if let Numbers::Words(k) = n {
         return put_count(l, out, k);
     }
-    if let Numbers::NoNumber(i) = n {
+    if let Numbers::NotNumber(i) = n {
         return put_word(l, out, b", but word ", i, b" is no decimal number\n");
     }
-    if let Numbers::TooLarge(i) = n {
+    if let Numbers::Large(i) = n {
         return put_word(
             l,
             out,

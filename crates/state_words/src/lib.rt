@@ -5,9 +5,6 @@ ghost use Prim.Native.Nat.{_+_, _<_, _≤_};
 ghost use lib.ListN.{length};
 ghost use Rattle.state_words.specs.Words.{wordsOf, part, stateOf, poked};
 
-// How many words a state has.
-pub const WORDS: usize = 215;
-
 // Every word of a state.
 pub fn words_of(s: Sampler) -> [u64; 215]
     ensures { λ r. ⌜ r ≡ wordsOf s ⌝ }
