@@ -47,7 +47,7 @@ def ends(program):
         sys.exit(f"a failed write is said by {said}")
     with open("/proc/self/mem", "rb") as unreadable:
         said = subprocess.run([program], stdin=unreadable, stdout=subprocess.PIPE, check=True).stdout
-    if said != b"the input could not be read to its end\n":
+    if said != b"line 1: the input cannot be read to its end\n":
         sys.exit(f"an input that cannot be read is said by {said}")
 
 

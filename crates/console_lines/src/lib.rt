@@ -100,7 +100,13 @@ fn next_line(before: Console, out: &mut [u8], line: &[u8]) -> Console
 fn finish(c: Console, out: &mut [u8]) {
     let l = c.lines;
     if l.is_broken {
-        let said = lines::put(l, out, b"the input could not be read to its end\n");
+        let said = lines::put_between(
+            l,
+            out,
+            b"line ",
+            std::num::wrapping_add_u64(c.line, 1),
+            b": the input cannot be read to its end\n",
+        );
         lines::finish(said, out);
         return;
     }

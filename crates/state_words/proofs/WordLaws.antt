@@ -10,7 +10,7 @@ use lib.Seq.{take-add, take-all, drop-length, drop-cons, length-take-le, getD-se
 use Rattle.bits.specs.Stream.{overwrite}
 use Rattle.bits.proofs.OverwriteLaws.{over-append, over-start}
 use Rattle.state.specs.declared.Sampler.{Sampler}
-use Rattle.state_words.specs.Words.{Sized, wordsOf, part, stateOf, wordOf, poked}
+use Rattle.state_words.specs.Words.{Sized, wordsOf, part, fromWords, wordOf, poked}
 
 pub words-length : (s : Sampler) → Sized s → length (wordsOf s) ≡ 215
 unfolding wordsOf
@@ -68,8 +68,8 @@ module _ (l : List ℕ) where
   grown n m x y e f = rw (e, f) (sym (take-add n m l))
 
   -- the words of the state that has the words l are l
-  pub words-of-state : length l ≡ 215 → wordsOf (stateOf l) ≡ l
-  unfolding wordsOf stateOf
+  pub words-of-state : length l ≡ 215 → wordsOf (fromWords l) ≡ l
+  unfolding wordsOf fromWords
   words-of-state e =
       let a = sym (two (omega arith)) in
       let b = grown 2 6 _ (part l 2 6) a refl in

@@ -22,8 +22,8 @@ abbrev pub part : List ℕ → ℕ → ℕ → List ℕ
 part l at n = take n (drop at l)
 
 -- the state that has these words
-unfoldable pub stateOf : List ℕ → Sampler
-stateOf l = record {
+unfoldable pub fromWords : List ℕ → Sampler
+fromWords l = record {
   family = getD l 0 0;
   axes = getD l 1 0;
   bases = part l 2 6;
@@ -41,4 +41,4 @@ wordOf s place = getD (wordsOf s) place 0
 
 -- the state with a word set
 unfoldable pub poked : Sampler → ℕ → ℕ → Sampler
-poked s place value = stateOf (set (wordsOf s) place value)
+poked s place value = fromWords (set (wordsOf s) place value)

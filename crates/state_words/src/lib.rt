@@ -3,7 +3,7 @@ use sampler::Sampler;
 ghost use mathlib.Core.Path.{_≡_};
 ghost use Prim.Native.Nat.{_+_, _<_, _≤_};
 ghost use lib.ListN.{length};
-ghost use Rattle.state_words.specs.Words.{wordsOf, part, stateOf, poked};
+ghost use Rattle.state_words.specs.Words.{wordsOf, part, fromWords, poked};
 
 // Every word of a state.
 pub fn words_of(s: Sampler) -> [u64; 215]
@@ -49,7 +49,7 @@ fn table(words: &[u64]) -> [u64; 192]
 // The state that has these words.
 fn state_of(words: &[u64]) -> Sampler
     requires { ⌜ length (now words) ≡ 215 ⌝ }
-    ensures { λ r. ⌜ r ≡ stateOf (now (words .entry)) ⌝ }
+    ensures { λ r. ⌜ r ≡ fromWords (now (words .entry)) ⌝ }
 {
     Sampler {
         family: words[0],

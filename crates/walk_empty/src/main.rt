@@ -1,8 +1,4 @@
 // `walk` on no bytes (R12): number 1.
 fn main() {
-    let mut input = [0u8; 128];
-    let n = io::read_full(0, &mut input);
-    let mut text = [0u8; 1024];
-    let length = walk_text::walk(&input[..n], &mut text);
-    io::write_all(1, &text[..length]);
+    walk_io::walk();
 }

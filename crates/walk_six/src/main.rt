@@ -1,8 +1,4 @@
 // `walk` on six axes: Halton, bases 2, 3, 5, 7, 11 and 13.
 fn main() {
-    let mut input = [0u8; 128];
-    let n = io::read_full(0, &mut input);
-    let mut text = [0u8; 1024];
-    let length = walk_text::walk(&input[..n], &mut text);
-    io::write_all(1, &text[..length]);
+    walk_io::walk();
 }

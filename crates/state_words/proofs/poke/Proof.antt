@@ -1,6 +1,6 @@
 -- The words with one of them set are those of the answer. Assumes nothing.
 use mathlib.Core.Path.{_∙_, ap}
-use Rattle.state_words.specs.Words.{poked, stateOf}
+use Rattle.state_words.specs.Words.{poked, fromWords}
 use borrow.Author.Needs.{needs}
 use Rattle.state_words.proofs.poke.Statement.{statement}
 use Rattle.state_words.proofs.poke.Tie as tie

@@ -1,6 +1,6 @@
 -- Each field is its part of the words. Assumes nothing.
 use mathlib.Core.Path.{refl}
-use Rattle.state_words.specs.Words.{stateOf}
+use Rattle.state_words.specs.Words.{fromWords}
 use borrow.Author.Needs.{needs}
 use Rattle.state_words.proofs.state_of.Statement.{statement}
 use Rattle.state_words.proofs.state_of.Tie as tie
@@ -33,7 +33,7 @@ six-requires-3 : tie.Need-six-requires-3
 six-requires-3 c κs = search needs
 
 returns : tie.Need-returns
-unfolding stateOf
+unfolding fromWords
 returns c = rw (c .six3 .ensures, c .before .before .before .before .table .ensures, c .before .before .before .before .before .six2 .ensures, c .before .before .before .before .before .before .six .ensures) refl
 
 pub state-of-spec : {M : Type 1} → statement M
