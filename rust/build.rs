@@ -1,16 +1,21 @@
 // Links libhisowake.a of the folder HISOWAKE_LIB_DIR, or else of the repository's dist. Sets `core_error` where the compiler has
 // core::error::Error.
-use std::path::PathBuf;
+use std::ffi::OsStr;
+use std::path::{Path, PathBuf};
 use std::process::{exit, Command};
 
-/// The folder that has the archive; a relative one starts at this crate. Ends with a line that says what is wrong if there is none.
+/// The folder that has the archive; a relative one starts at this crate's. Ends with a line that says what is wrong if there is none.
 fn folder() -> PathBuf {
     let named = std::env::var_os("HISOWAKE_LIB_DIR");
-    let folder = named.as_ref().map_or(concat!(env!("CARGO_MANIFEST_DIR"), "/../dist").into(), PathBuf::from);
+    let folder = Path::new(env!("CARGO_MANIFEST_DIR")).join(named.as_deref().unwrap_or_else(|| OsStr::new("../dist")));
     match folder.canonicalize() {
         Ok(whole) if whole.join("libhisowake.a").is_file() => whole,
         _ => {
-            let whose = if named.is_some() { "HISOWAKE_LIB_DIR is" } else { "HISOWAKE_LIB_DIR is not set, and the folder in its place is" };
+            let whose = match named {
+                None => "HISOWAKE_LIB_DIR is not set, and the folder in its place is",
+                Some(name) if Path::new(&name).is_relative() => "HISOWAKE_LIB_DIR, relative to the crate's folder, is",
+                Some(_) => "HISOWAKE_LIB_DIR is",
+            };
             eprintln!("hisowake: {whose} {folder:?}, where no libhisowake.a is found");
             exit(1);
         }

@@ -28,7 +28,7 @@ pub enum ParseError {
     Refused {
         /// Why.
         refusal: Refusal,
-        /// The byte of the text, from 0, at which the axis starts.
+        /// The byte of the text, from 0, at which the axis starts; or the m, where the refusal is that it is even.
         at: usize,
     },
 }
@@ -49,7 +49,7 @@ pub enum Expected {
     End,
     /// A base from 2 to 256.
     Base,
-    /// The word `0`, or an odd number from 3 to 8191 and a colon.
+    /// The word `0`, or a number from 2 to 8191 and a colon.
     Polynomial,
     /// The number m of this place, from 1, of an axis: an odd number below 2^place.
     Number(u32),
@@ -66,7 +66,7 @@ impl fmt::Display for Expected {
             Expected::Axis => write!(f, "a word for an axis"),
             Expected::End => write!(f, "no more than {AXES_MAX} axes"),
             Expected::Base => write!(f, "a base from 2 to 256"),
-            Expected::Polynomial => write!(f, "0, or an odd number from 3 to 8191 and a colon"),
+            Expected::Polynomial => write!(f, "0, or a number from 2 to 8191 and a colon"),
             Expected::Number(place) => write!(f, "m_{place}, an odd number below 2^{place}"),
             Expected::Numbers(count) => write!(f, "no number after m_{count}"),
             Expected::Cut => write!(f, "a cut such as 1/3"),

@@ -53,8 +53,8 @@
 //! # What it needs
 //!
 //! `#![no_std]`: it uses `core` alone, and nothing allocates. It is meant for Rust 1.63 and later; [`Refusal`] and [`ParseError`] are
-//! `core::error::Error` from Rust 1.81 on, which first has it. The archive is for x86-64. It is that of the folder `HISOWAKE_LIB_DIR`, or else of
-//! the repository's `dist`.
+//! `core::error::Error` from Rust 1.81 on, which first has it. The archive is for x86-64. It is that of the folder that the environment variable
+//! `HISOWAKE_LIB_DIR` names, which starts at this crate's folder if it is relative, or else of the repository's `dist`.
 #![no_std]
 #![deny(missing_docs, unsafe_code)]
 #![warn(clippy::missing_errors_doc, clippy::must_use_candidate)]

@@ -235,7 +235,7 @@ impl TryFrom<&[u8]> for Plan {
     }
 }
 
-/// Writes the plan's words.
+/// Writes the plan's words in brackets, as `Plan(halton 2 3)`.
 impl fmt::Debug for Plan {
     fn fmt(&self, f: &mut fmt::Formatter<'_>) -> fmt::Result {
         write!(f, "Plan({self})")

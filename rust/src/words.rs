@@ -1,7 +1,7 @@
 //! Plans and cuts as words: what `FromStr` reads and `Display` writes.
 
 use crate::bits::{field, put};
-use crate::{Cut, Expected, Family, ParseError, Plan, AXES_MAX, PLAN_MAX};
+use crate::{Cut, Expected, Family, ParseError, Plan, Refusal, AXES_MAX, PLAN_MAX};
 use core::fmt;
 use core::str::FromStr;
 
@@ -21,9 +21,24 @@ fn decimal(word: &str) -> Option<u32> {
     }
 }
 
-/// The words of a text, each with the byte at which it starts.
+/// The byte of a text at which a part of it starts.
+fn start(part: &str, text: &str) -> usize {
+    part.as_ptr() as usize - text.as_ptr() as usize
+}
+
+/// The words of a text, with spaces and tabs between them, each with the byte at which it starts.
 fn words(text: &str) -> impl Iterator<Item = (usize, &str)> {
-    text.split_ascii_whitespace().map(move |word| (word.as_ptr() as usize - text.as_ptr() as usize, word))
+    text.split([' ', '\t']).filter(|word| !word.is_empty()).map(move |word| (start(word, text), word))
+}
+
+/// The byte of an axis's word at which a refusal is told: that of the first even m, or else its first. Where an m is refused the polynomial, in
+/// front, is odd.
+fn told_at(refusal: Refusal, word: &str) -> usize {
+    let even = |number: &&str| decimal(number).map_or(false, |n| n % 2 == 0);
+    match refusal {
+        Refusal::EvenNumber => word.split([':', ',']).find(even).map_or(0, |number| start(number, word)),
+        _ => 0,
+    }
 }
 
 /// The family of a word.
@@ -74,9 +89,10 @@ impl Draft {
         }
     }
 
-    /// Appends a Sobol axis: the degree in 4 bits, the polynomial's inner coefficients, and its numbers.
+    /// Appends a Sobol axis: the degree in 4 bits, the polynomial's inner coefficients, and its numbers. An even polynomial, which no bits
+    /// spell, is refused as the archive refuses one that is not primitive.
     fn put_axis(&mut self, at: usize, word: &str) -> Result<(), ParseError> {
-        if decimal(word) == Some(0) {
+        if word == "0" {
             self.put(4, 0);
             return Ok(());
         }
@@ -85,13 +101,17 @@ impl Draft {
             None => return expected(Expected::Polynomial, at),
         };
         let polynomial = match decimal(number) {
-            Some(polynomial) if (3..=POLYNOMIAL_MAX).contains(&polynomial) && polynomial % 2 == 1 => polynomial,
+            Some(polynomial) if (2..=POLYNOMIAL_MAX).contains(&polynomial) => polynomial,
             _ => return expected(Expected::Polynomial, at),
         };
         let degree = 31 - polynomial.leading_zeros();
         self.put(4, degree);
         self.put(degree as usize - 1, polynomial / 2);
-        self.put_numbers(degree, at + number.len() + 1, numbers)
+        self.put_numbers(degree, at + number.len() + 1, numbers)?;
+        match polynomial % 2 {
+            0 => Err(ParseError::Refused { refusal: Refusal::NotPrimitive, at }),
+            _ => Ok(()),
+        }
     }
 
     /// Appends m_1 to m_d, m_i in i bits, out of a word with commas.
@@ -114,15 +134,17 @@ impl Draft {
         }
     }
 
-    /// Reads the plan of this many axes.
-    fn read(&mut self, axes: u32, at: usize) -> Result<Plan, ParseError> {
+    /// Reads the plan of this many axes, of which the last is the word at `at`.
+    fn read(&mut self, axes: u32, at: usize, word: &str) -> Result<Plan, ParseError> {
         put(&mut self.bytes, 2, 3, axes);
-        Plan::read(&self.bytes[..(self.len + 7) / 8]).map_err(|refusal| ParseError::Refused { refusal, at })
+        let plan = Plan::read(&self.bytes[..(self.len + 7) / 8]);
+        plan.map_err(|refusal| ParseError::Refused { refusal, at: at + told_at(refusal, word) })
     }
 }
 
-/// Reads a plan's words: the family, `halton`, `permuted` or `sobol`, and a word for each axis, with blanks between them. A Halton axis is its
-/// base. A Sobol axis is `0`, the plain binary one, or its polynomial as a number, a colon, and its m's with commas between them.
+/// Reads a plan's words: the family, `halton`, `permuted` or `sobol`, and a word for each axis, with spaces or tabs between them. A Halton axis
+/// is its base. A Sobol axis is `0`, the plain binary one, or its polynomial as a number, a colon, and its m's with commas between them. Numbers
+/// are in decimal and may have zeros in front. These are the plans of the texts that the programs `weights` and `plot` read.
 ///
 /// The words become bytes, and the plan is what [`Plan::read`] makes of them: after each axis, so that an error says which is refused.
 ///
@@ -156,13 +178,38 @@ impl FromStr for Plan {
                 Family::Sobol => draft.put_axis(at, word)?,
                 _ => draft.put_base(at, word)?,
             }
-            plan = Ok(draft.read(axis as u32 + 1, at)?);
+            plan = Ok(draft.read(axis as u32 + 1, at, word)?);
         }
         plan
     }
 }
 
 // ---- words out of plans
+
+/// The most bytes of a plan's words: `sobol` and six axes of degree 12.
+const WORDS_MAX: usize = 287;
+
+/// A text of at most `WORDS_MAX` bytes.
+struct Text {
+    bytes: [u8; WORDS_MAX],
+    len: usize,
+}
+
+impl fmt::Write for Text {
+    fn write_str(&mut self, part: &str) -> fmt::Result {
+        let end = self.len + part.len();
+        self.bytes.get_mut(self.len..end).ok_or(fmt::Error)?.copy_from_slice(part.as_bytes());
+        self.len = end;
+        Ok(())
+    }
+}
+
+/// Writes a short text as a `str` is written, with the width that is asked for.
+fn pad(f: &mut fmt::Formatter<'_>, parts: fmt::Arguments<'_>) -> fmt::Result {
+    let mut text = Text { bytes: [0; WORDS_MAX], len: 0 };
+    fmt::write(&mut text, parts)?;
+    f.pad(core::str::from_utf8(&text.bytes[..text.len]).map_err(|_| fmt::Error)?)
+}
 
 /// Writes the plan's words, which parse to the same plan.
 ///
@@ -175,10 +222,18 @@ impl FromStr for Plan {
 /// ```
 impl fmt::Display for Plan {
     fn fmt(&self, f: &mut fmt::Formatter<'_>) -> fmt::Result {
-        write!(f, "{}", self.family())?;
-        match self.family() {
-            Family::Sobol => write_axes(self, f),
-            _ => (0..self.axes()).try_for_each(|axis| write!(f, " {}", self.base(axis))),
+        pad(f, format_args!("{}{}", self.family(), Axes(self)))
+    }
+}
+
+/// A plan whose axes are written, a blank before each.
+struct Axes<'a>(&'a Plan);
+
+impl fmt::Display for Axes<'_> {
+    fn fmt(&self, f: &mut fmt::Formatter<'_>) -> fmt::Result {
+        match self.0.family() {
+            Family::Sobol => write_axes(self.0, f),
+            _ => (0..self.0.axes()).try_for_each(|axis| write!(f, " {}", self.0.base(axis))),
         }
     }
 }
@@ -231,6 +286,6 @@ impl FromStr for Cut {
 /// ```
 impl fmt::Display for Cut {
     fn fmt(&self, f: &mut fmt::Formatter<'_>) -> fmt::Result {
-        write!(f, "{}/{}", self.u, self.q)
+        pad(f, format_args!("{}/{}", self.u, self.q))
     }
 }

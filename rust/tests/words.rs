@@ -1,5 +1,5 @@
 //! Plans and cuts as words: what they spell, that each plan's words parse to it again, and what is wrong with other texts.
-use hisowake::{Cut, Expected, ParseError, Plan, Refusal, AXES_MAX};
+use hisowake::{Cut, Expected, Family, ParseError, Plan, Refusal, AXES_MAX};
 
 /// Numbers by splitmix64.
 struct Random(u64);
@@ -119,9 +119,10 @@ fn random_plans() {
 
 #[test]
 fn blanks_and_zeros() {
-    for text in [" halton 2 3", "halton\t2\n3 ", "  halton   2  3  ", "halton 002 03"] {
+    for text in [" halton 2 3", "halton\t2 3 ", "  halton \t 2  3  \t", "halton 002 0000000000000000000000003"] {
         assert_eq!(text.parse::<Plan>().map(|plan| plan.to_string()), Ok("halton 2 3".into()));
     }
+    assert_eq!("sobol 0 011:01,003,0007".parse::<Plan>().map(|plan| plan.to_string()), Ok("sobol 0 11:1,3,7".into()));
 }
 
 fn expects(text: &str, what: Expected, at: usize, message: &str) {
@@ -133,17 +134,19 @@ fn expects(text: &str, what: Expected, at: usize, message: &str) {
 #[test]
 fn what_was_expected_and_where() {
     let family = "halton, permuted or sobol";
-    for (text, at) in [("", 0), ("   ", 3), ("Halton 2", 0), (" haltons 2", 1), ("2 3", 0), ("\u{e9} 2", 0), ("halton\u{a0}2", 0)] {
+    for (text, at) in
+        [("", 0), ("   ", 3), ("Halton 2", 0), (" haltons 2", 1), ("2 3", 0), ("\u{e9} 2", 0), ("halton\u{a0}2", 0), ("halton\n2", 0)]
+    {
         expects(text, Expected::Family, at, family);
     }
     expects("halton", Expected::Axis, 6, "a word for an axis");
     expects("sobol ", Expected::Axis, 6, "a word for an axis");
     expects("halton 2 3 5 7 11 13 17", Expected::End, 21, "no more than 6 axes");
-    for base in ["0", "257", "+2", "-2", "2.0", "0x2", "2,3", "4294967298", "99999999999999999999", "\u{662}", "x"] {
+    for base in ["0", "257", "+2", "-2", "2.0", "0x2", "2,3", "4294967298", "99999999999999999999", "\u{662}", "x", "2\n", "2\r"] {
         expects(&format!("permuted 3 {base}"), Expected::Base, 11, "a base from 2 to 256");
     }
-    for axis in ["1", "1:", "2:1", "11", "10:1,3,7", "8192:1", "8193:1", "x:1", ":1", "-3:1", "4294967299:1", "0:"] {
-        expects(&format!("sobol 0 {axis}"), Expected::Polynomial, 8, "0, or an odd number from 3 to 8191 and a colon");
+    for axis in ["00", "1", "1:", "11", "8192:1", "8193:1", "x:1", ":1", "-3:1", "4294967299:1", "0:", "00:1"] {
+        expects(&format!("sobol 3:1 {axis}"), Expected::Polynomial, 10, "0, or a number from 2 to 8191 and a colon");
     }
     expects("sobol 11:", Expected::Number(1), 9, "m_1, an odd number below 2^1");
     expects("sobol 11:2,3,7", Expected::Number(1), 9, "m_1, an odd number below 2^1");
@@ -154,9 +157,10 @@ fn what_was_expected_and_where() {
     expects("sobol 11:1, 3,7", Expected::Number(2), 11, "m_2, an odd number below 2^2");
     expects("sobol 11:1,3,7,1", Expected::Numbers(3), 14, "no number after m_3");
     expects("sobol 3:1,", Expected::Numbers(1), 9, "no number after m_1");
+    expects("sobol 2:x", Expected::Number(1), 8, "m_1, an odd number below 2^1");
 }
 
-/// The axis at which the archive refuses.
+/// The axis at which the archive refuses, or the even m.
 #[test]
 fn what_was_refused_and_where() {
     for (text, refusal, at) in [
@@ -166,8 +170,13 @@ fn what_was_refused_and_where() {
         ("permuted 6 5 9 7", Refusal::CommonFactor, 13),
         ("sobol 5:1,1", Refusal::NotPrimitive, 6),
         ("sobol 0 31:1,1,1,1", Refusal::NotPrimitive, 8),
-        ("sobol 3:0", Refusal::EvenNumber, 6),
-        ("sobol 0 11:1,3,6 3:1", Refusal::EvenNumber, 8),
+        ("sobol 2:1", Refusal::NotPrimitive, 6),
+        ("sobol 0 10:1,2,4", Refusal::NotPrimitive, 8),
+        ("sobol 5:0,1", Refusal::NotPrimitive, 6),
+        ("sobol 3:0", Refusal::EvenNumber, 8),
+        ("sobol 11:1,2,7", Refusal::EvenNumber, 11),
+        ("sobol 11:1,002,6", Refusal::EvenNumber, 11),
+        ("sobol 0 11:1,3,6 3:1", Refusal::EvenNumber, 15),
         ("sobol 0 3:1 0", Refusal::RepeatedPolynomial, 12),
         ("sobol 11:1,3,7 11:1,1,1", Refusal::RepeatedPolynomial, 15),
     ] {
@@ -216,6 +225,23 @@ fn cuts() {
     for text in ["", "/", "1", "1/", "/3", "1/3/5", "1 /3", "+1/3", "1/4294967296", "a/b", " 1/3", "\u{e9}/3"] {
         assert_eq!(text.parse::<Cut>(), Err(ParseError::Expected { what: Expected::Cut, at: 0 }), "{text}");
     }
+}
+
+/// What is written keeps a width, as a `str` does; the longest words of a plan too.
+#[test]
+fn widths() {
+    let most: Vec<u64> = (1..=12).map(|place| (1 << place) - 1).collect();
+    let polynomials = primitive().into_iter().filter(|&p| degree(p) == 12).take(AXES_MAX);
+    let longest = polynomials.fold(String::from("sobol"), |words, p| words + &axis(p, &most).0);
+    assert_eq!(longest.len(), 287);
+    for words in [&longest, "halton 2 3", "sobol 0"] {
+        let plan: Plan = words.parse().unwrap();
+        assert_eq!(format!("{plan:>300}|{plan:*^20}|{plan:12}|{plan}"), format!("{words:>300}|{words:*^20}|{words:12}|{words}"));
+    }
+    let (family, cut) = (Family::Sobol, Cut::new(1, 3));
+    assert_eq!(format!("{family:>8}|{cut:>8}|{cut:8}|"), "   sobol|     1/3|1/3     |");
+    let cut = Cut::new(u32::MAX, u32::MAX);
+    assert_eq!(format!("{cut:>23}"), "  4294967295/4294967295");
 }
 
 #[cfg(core_error)]

@@ -10,7 +10,7 @@ from pathlib import Path
 import console
 import scripts
 
-SESSIONS = 10000
+SCRIPTS = 1000
 
 
 def run(program, script):
@@ -52,9 +52,9 @@ def ends(program):
 
 
 def random_scripts(program, rng):
-    """Scripts of several sessions each; how often each call gave each code."""
+    """Scripts of ten parts each; how often each call gave each code."""
     met = Counter()
-    for turn in range(SESSIONS // 10):
+    for turn in range(SCRIPTS):
         lines, answers = scripts.script(rng, 10)
         script = b"".join(line + b"\n" for line in lines)
         said = [answer for answer in answers if answer is not None]
@@ -87,7 +87,7 @@ def main():
         for code in codes:
             if met[f"{name} {code}"] < 3:
                 sys.exit(f"the answer {name} {code} was only met {met[f'{name} {code}']} times")
-    print(f"console: {sum(met.values())} answers of {SESSIONS} random sessions are the reference's, {met['lines in error']} of them of lines in error")
+    print(f"console: {sum(met.values())} answers of {SCRIPTS} random scripts are the reference's, {met['lines in error']} of them of lines in error")
 
 
 main()

@@ -6,18 +6,18 @@ from console import Console
 from reference import Refused
 
 
-def script(rng, turns):
-    """Lines, and what each answers. The reference goes along, so that the lines suit its state."""
+def script(rng, parts):
+    """The lines of so many parts, and what each answers. The reference goes along, so that the lines suit its state."""
     console, lines, answers = Console(), [], []
-    for _ in range(turns):
-        for line in session(rng, console):
+    for _ in range(parts):
+        for line in part(rng, console):
             lines.append(line)
             answers.append(console.answer(line))
     return lines, answers
 
 
-def session(rng, console):
-    """A plan, a run of it, and calls on them; in some sessions words of the state are set first."""
+def part(rng, console):
+    """A plan, a run of it, and calls on them; in some parts a word of the state is set between them."""
     data = plans.valid(rng) if rng.random() < 0.7 else plans.random_string(rng)
     yield text("read", data.hex() if rng.random() < 0.5 else data.hex().upper())
     yield opening(rng)
