@@ -81,6 +81,7 @@ fn misspelled() {
     build(b"halton 2 three");
     build(b"permuted 2 3 18446744073709551616");
     build(b"sobol 0 x");
+    build(b"sobol 00");
     build(b"sobol 11");
     build(b"sobol 0 :1,3,7");
     build(b"sobol 11:1,3");
@@ -106,6 +107,7 @@ fn unsound() {
     build(b"sobol 31:1,1,1,1");
     build(b"sobol 5:1,1");
     build(b"sobol 10:1,1,1");
+    build(b"sobol 2:1");
     build(b"sobol 11:1,3,7 11:1,1,1");
     build(b"sobol 0 3:1 0");
     build(b"sobol 0 11:1,3,4");

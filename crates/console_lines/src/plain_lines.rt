@@ -1,8 +1,6 @@
 // Lines whose call is lent nothing.
 use console_text::Console;
 use console_text::Numbers;
-ghost use Prim.Native.Nat.{_≤_};
-ghost use lib.ListN.{length};
 
 // `second INDEX`.
 pub fn second(c: Console, out: &mut [u8], rest: &[u8]) -> Console {

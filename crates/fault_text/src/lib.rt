@@ -1,5 +1,6 @@
 // What is wrong with the words of a plan, as a message of at most 256 bytes. A text that would not fit is cut off. Each `say` gives the
 // place after what it put.
+use plan::refusal;
 use plan_check::Fault;
 ghost use mathlib.Core.Path.{_≡_};
 ghost use Prim.Native.Nat.{_≤_};
@@ -181,23 +182,23 @@ fn say_axis(out: &mut [u8], at: usize, f: Fault) -> usize
 {
     let code = f.code;
     match code {
-        4 => say_got(out, at, b"the base must be 2 to 256", f.got),
-        5 => say_shared(out, at, f),
-        6 => say_got(
+        refusal::BAD_BASE => say_got(out, at, b"the base must be 2 to 256", f.got),
+        refusal::COMMON_FACTOR => say_shared(out, at, f),
+        refusal::BAD_DEGREE => say_got(
             out,
             at,
             b"the polynomial must be 2 to 8191, of degree 1 to 12",
             f.got,
         ),
-        7 => {
+        refusal::NOT_PRIMITIVE => {
             let a = say_polynomial(out, at, f.got);
             say(out, a, b" is not primitive")
         }
-        9 => say_twin(out, at, f),
-        102 => say(out, at, b"expected a base in decimal, 2 to 256"),
-        103 => say(out, at, b"expected 0 or P:M,M,.. in decimal"),
-        104 => say_count(out, at, f),
-        105 => {
+        refusal::REPEATED_POLYNOMIAL => say_twin(out, at, f),
+        plan_words::NOT_A_BASE => say(out, at, b"expected a base in decimal, 2 to 256"),
+        axis_words::NOT_AN_AXIS => say(out, at, b"expected 0 or P:M,M,.. in decimal"),
+        axis_words::WRONG_COUNT => say_count(out, at, f),
+        axis_words::NOT_A_NUMBER => {
             let a = say(out, at, b"expected m_");
             let b = say_number(out, a, f.place as u64);
             say(out, b, b" in decimal")
@@ -216,9 +217,9 @@ pub fn message(f: Fault, out: &mut [u8]) -> usize
     let code = f.code;
     match code {
         0 => 0,
-        2 => say(out, 0, b"expected the family halton, permuted or sobol"),
-        3 => say_got(out, 0, b"expected one to six axes", f.got),
-        13 => say(out, 0, b"the plan has no room in the buffer"),
+        refusal::BAD_FAMILY => say(out, 0, b"expected the family halton, permuted or sobol"),
+        refusal::BAD_AXIS_COUNT => say_got(out, 0, b"expected one to six axes", f.got),
+        refusal::BUFFER_TOO_SMALL => say(out, 0, b"the plan has no room in the buffer"),
         _ => {
             let a = say(out, 0, b"axis ");
             let b = say_number(out, a, f.axis as u64);

@@ -10,7 +10,7 @@ use Rattle.numbers.specs.Digits.{productTo}
 use Rattle.window.specs.Counting.{Cut, isWindow}
 use Rattle.window.proofs.PlanLaws.{cuts-at}
 use Rattle.window.proofs.RangeLaws.{window-cuts, window-room}
-use Rattle.volumes.specs.Volume.{uAt, qAt, finelyTo, volumeOf}
+use Rattle.volumes.specs.Volume.{uAt, qAt, finelyTo}
 
 module _ (v u q : ℕ) (pos : 1 ≤ q) where
   by-parts : v * u ≡ v / q * u * q + v % q * u

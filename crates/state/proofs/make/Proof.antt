@@ -1,5 +1,4 @@
 -- `state::make` meets its contract: the answer's arrays and its direction numbers are the plan's, and no point is next. Assumes nothing.
-use mathlib.Core.Path.{_≡_}
 use native.Mathlib.Omega.{arith}
 use borrow.Author.Needs.{needs}
 use Rattle.plan.specs.Answer.{planAnswered}

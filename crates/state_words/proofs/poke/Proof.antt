@@ -1,6 +1,5 @@
 -- The words with one of them set are those of the answer. Assumes nothing.
-use mathlib.Core.Path.{_∙_, ap}
-use Rattle.state_words.specs.Words.{poked, fromWords}
+use Rattle.state_words.specs.Words.{poked}
 use borrow.Author.Needs.{needs}
 use Rattle.state_words.proofs.poke.Statement.{statement}
 use Rattle.state_words.proofs.poke.Tie as tie
