@@ -39,22 +39,25 @@ fn not_good(j: Job) -> WindowRead
     }
 }
 
-// The name from `from` on: the word before a word `=`.
+// The name from `from` on: the word before a word `=`, and not itself `=`.
 fn find_name(text: &[u8], from: usize) -> Name
     requires { ⌜ from ≤ length (now text) ⌝ }
     ensures { λ r. ⌜ (r .start ≤ r .end) × (r .end ≤ length (now (text .entry))) × (r .after ≤ length (now (text .entry))) ⌝ }
 {
     let w = words::find(text, from);
+    let start = w.start;
     let end = w.end;
     let v = words::find(text, end);
     let a = v.start;
     let e = v.end;
     if check::same(&text[a..e], b"=") {
-        return Name {
-            start: w.start,
-            end,
-            after: e,
-        };
+        if !check::same(&text[start..end], b"=") {
+            return Name {
+                start,
+                end,
+                after: e,
+            };
+        }
     }
     Name {
         start: from,
