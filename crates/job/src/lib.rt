@@ -12,6 +12,7 @@ pub use report::end;
 pub use report::end_number;
 pub use report::error;
 pub use report::fail;
+pub use report::more_errors;
 pub use report::say;
 pub use report::say_between;
 pub use run::run_line;
@@ -20,16 +21,19 @@ ghost use Prim.Native.Nat.{_<_, _≤_};
 ghost use lib.ListN.{length};
 
 // What the lines so far leave: the input and the output; whether errors are texts of a picture; the number of the line at hand, how many lines
-// were in error, whether a plan and a run are in force, and the sampler that has them; the axes to draw, from 1, or 0 where none are given,
-// whether the time of day goes along axis 1, and the number of the line that says so.
+// were in error, and whether the error at hand is not shown; whether a plan and a run are in force, the sampler that has them, and the number of
+// the run's line; the axes to draw, from 1, or 0 where none are given, whether the time of day goes along axis 1, and the number of the line
+// that says so.
 pub struct Job {
     pub lines: Lines,
     pub is_picture: bool,
     pub line: u64,
     pub errors: u64,
+    pub is_quiet: bool,
     pub has_plan: bool,
     pub has_run: bool,
     pub state: Sampler,
+    pub run_at: u64,
     pub x: u64,
     pub y: u64,
     pub is_time: bool,
@@ -43,9 +47,11 @@ pub fn new(is_picture: bool) -> Job {
         is_picture,
         line: 0,
         errors: 0,
+        is_quiet: false,
         has_plan: false,
         has_run: false,
         state: sampler::blank_state(),
+        run_at: 0,
         x: 0,
         y: 0,
         is_time: false,

@@ -35,11 +35,16 @@ fn open(j: Job, out: &mut [u8], start: u64, count: u64) -> Job {
     let s = j.state;
     let r = sampler::open(s, start, count);
     if r.code != 0 {
-        return error(j, out, b"START + COUNT is above 4294967296 (11)");
+        return error(
+            j,
+            out,
+            b"the run is refused: 11, START + COUNT is above 4294967296",
+        );
     }
     let t = r.state;
     let mut next = j;
     next.has_run = true;
+    next.run_at = j.line;
     next.state = t;
     next
 }

@@ -6,38 +6,27 @@ ghost use mathlib.Core.Path.{_≡_};
 ghost use Prim.Native.Nat.{_≤_};
 ghost use lib.ListN.{length};
 
-// What the lines so far ask for, and how many windows of the run are kept.
+// What the lines so far ask for, how many windows of the run are kept, and the number of the line of the first that is not, or 0.
 struct Wanted {
     job: Job,
     windows: usize,
+    more_at: u64,
 }
 
 // No window is kept of a new plan or run.
 fn afresh(j: Job) -> Wanted
     ensures { λ r. ⌜ r .windows ≡ 0 ⌝ }
 {
-    Wanted { job: j, windows: 0 }
+    Wanted {
+        job: j,
+        windows: 0,
+        more_at: 0,
+    }
 }
 
-// A line `run START COUNT`, from after its first word on: a run of at most 100,000 points.
-fn run_line(j: Job, out: &mut [u8], text: &[u8], from: usize) -> Job
-    requires { ⌜ from ≤ length (now text) ⌝ }
-{
-    let next = job::run_line(j, out, text, from);
-    if !next.has_run {
-        return next;
-    }
-    let s = next.state;
-    if s.count <= 100000 {
-        return next;
-    }
-    let mut none = next;
-    none.has_run = false;
-    job::error(
-        none,
-        out,
-        b"expected a run of at most 100000 points to draw",
-    )
+// The earlier line, where 0 is none.
+fn first(at: u64, line: u64) -> u64 {
+    if at == 0 { line } else { at }
 }
 
 // Keeps a window in its place: its cuts, and its name with zeros after it.
@@ -50,7 +39,7 @@ fn keep(i: usize, cuts: [u64; 12], name: &[u8], kept: &mut [u64], names: &mut [u
     text::put(names, 32 * i, name);
 }
 
-// A line of a window, from after its first word on: at most 32 of a run are drawn.
+// A line of a window, from after its first word on: the first 32 of a run are kept.
 fn window_line(
     p: Wanted,
     out: &mut [u8],
@@ -63,14 +52,22 @@ fn window_line(
     ensures { λ r. ⌜ r .windows ≤ 32 ⌝ }
 {
     let windows = p.windows;
+    let more_at = p.more_at;
     let r = window_lines::window_line(p.job, out, text, from);
     let j = r.job;
     if !r.is_good {
-        return Wanted { job: j, windows };
+        return Wanted {
+            job: j,
+            windows,
+            more_at,
+        };
     }
     if windows == 32 {
-        let next = job::error(j, out, b"expected at most 32 windows to draw");
-        return Wanted { job: next, windows };
+        return Wanted {
+            job: j,
+            windows,
+            more_at: first(more_at, j.line),
+        };
     }
     let start = r.start;
     let end = r.end;
@@ -79,6 +76,7 @@ fn window_line(
     Wanted {
         job: j,
         windows: windows + 1,
+        more_at,
     }
 }
 
@@ -98,18 +96,25 @@ fn text_line(p: Wanted, out: &mut [u8], text: &[u8], kept: &mut [u64], names: &m
         return afresh(job::plan_line(p.job, out, text, end));
     }
     if check::same(key, b"run") {
-        return afresh(run_line(p.job, out, text, end));
+        return afresh(job::run_line(p.job, out, text, end));
     }
     if check::same(key, b"window") {
         return window_line(p, out, text, end, kept, names);
     }
     let windows = p.windows;
+    let more_at = p.more_at;
     if check::same(key, b"axes") {
-        let next = job::axes_line(p.job, out, text, end);
-        return Wanted { job: next, windows };
+        return Wanted {
+            job: job::axes_line(p.job, out, text, end),
+            windows,
+            more_at,
+        };
     }
-    let next = job::error(p.job, out, b"expected plan, run, window, axes or #");
-    Wanted { job: next, windows }
+    Wanted {
+        job: job::error(p.job, out, b"expected plan, run, window, axes or #"),
+        windows,
+        more_at,
+    }
 }
 
 // Reads the next line, and does what it asks for.
@@ -127,15 +132,40 @@ fn line(
     let j = job::read(p.job, chunk, held, out);
     let l = j.lines;
     let windows = p.windows;
+    let more_at = p.more_at;
     if l.is_over {
-        return Wanted { job: j, windows };
+        return Wanted {
+            job: j,
+            windows,
+            more_at,
+        };
     }
     if 1024 < l.size {
-        let next = job::too_long(j, out, lines::text(l, held));
-        return Wanted { job: next, windows };
+        return Wanted {
+            job: job::too_long(j, out, lines::text(l, held)),
+            windows,
+            more_at,
+        };
     }
-    let now = Wanted { job: j, windows };
+    let now = Wanted {
+        job: j,
+        windows,
+        more_at,
+    };
     text_line(now, out, lines::text(l, held), kept, names)
+}
+
+// The job, and an error of the run's line if the run has too many points.
+fn sized(j: Job, out: &mut [u8]) -> Job {
+    let s = j.state;
+    if s.count <= 100000 {
+        return j;
+    }
+    let mut at = j;
+    at.line = j.run_at;
+    let mut next = job::error(at, out, b"expected a run of at most 100000 points to draw");
+    next.line = j.line;
+    next
 }
 
 // Axes that the plan does not have.
@@ -151,14 +181,8 @@ fn no_axes(j: Job, out: &mut [u8], axes: u64) -> Job {
     )
 }
 
-// The job at the input's end, and an error if no line was in error but something to draw is missing.
-fn checked(j: Job, out: &mut [u8]) -> Job {
-    if j.errors != 0 {
-        return j;
-    }
-    if !j.has_run {
-        return job::error(j, out, b"expected a plan and a run to draw");
-    }
+// The job, and an error if there are no axes to draw, or the plan has no such axes.
+fn with_axes(j: Job, out: &mut [u8]) -> Job {
     if j.x == 0 {
         return job::error(j, out, b"expected axes X Y to draw");
     }
@@ -173,13 +197,39 @@ fn checked(j: Job, out: &mut [u8]) -> Job {
     j
 }
 
-// Draws what the lines ask for; if one was in error, nothing beside the errors.
-fn draw(j: Job, out: &mut [u8], windows: usize, kept: &[u64], names: &[u8]) -> Lines
-    requires { ⌜ (windows ≤ 32) × (384 ≤ length (now kept)) × (1024 ≤ length (now names)) ⌝ }
-{
-    let l = j.lines;
+// The job at the input's end, and errors if no line was in error but the run or the axes cannot be drawn.
+fn checked(j: Job, out: &mut [u8]) -> Job {
     if j.errors != 0 {
+        return j;
+    }
+    if !j.has_run {
+        return job::error(j, out, b"expected a plan and a run to draw");
+    }
+    with_axes(sized(j, out), out)
+}
+
+// Says in a remark that some windows are not drawn, if so.
+fn remark(l: Lines, out: &mut [u8], more_at: u64) -> Lines {
+    if more_at == 0 {
         return l;
+    }
+    lines::put_between(
+        l,
+        out,
+        b"<!-- line ",
+        more_at,
+        b": only the first 32 windows are drawn -->\n",
+    )
+}
+
+// Draws what the lines ask for; if one was in error, nothing beside the errors.
+fn draw(p: Wanted, out: &mut [u8], kept: &[u64], names: &[u8]) -> Lines
+    requires { ⌜ (p .windows ≤ 32) × (384 ≤ length (now kept)) × (1024 ≤ length (now names)) ⌝ }
+{
+    let j = checked(p.job, out);
+    if j.errors != 0 {
+        let all = job::more_errors(j, out);
+        return all.lines;
     }
     let s = j.state;
     let d = Drawing {
@@ -187,17 +237,17 @@ fn draw(j: Job, out: &mut [u8], windows: usize, kept: &[u64], names: &[u8]) -> L
         x: j.x,
         y: j.y,
         is_time: j.is_time,
-        windows,
+        windows: p.windows,
     };
-    svg::draw(l, out, d, kept, names)
+    let said = remark(j.lines, out, p.more_at);
+    svg::draw(said, out, d, kept, names)
 }
 
 // At the input's end: draws, and ends the picture.
 fn end(p: Wanted, out: &mut [u8], kept: &[u64], names: &[u8])
     requires { ⌜ (p .windows ≤ 32) × (384 ≤ length (now kept)) × (1024 ≤ length (now names)) ⌝ }
 {
-    let j = checked(p.job, out);
-    let drawn = draw(j, out, p.windows, kept, names);
+    let drawn = draw(p, out, kept, names);
     lines::finish(svg::tail(drawn, out), out);
 }
 

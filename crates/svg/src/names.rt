@@ -4,37 +4,38 @@ use lines::Lines;
 use lines::put;
 use lines::put_between;
 use sampler::Sampler;
-ghost use Prim.Native.Nat.{_<_, _≤_};
 
 // ---- the plan and the run
 
-// A base, if the plan has one there.
-fn base(l: Lines, out: &mut [u8], is_there: bool, b: u64) -> Lines {
-    if is_there {
-        return put_between(l, out, b" ", b, b"");
+// The number of an axis, from 0: its base, or its polynomial; that of degree 0, which is 1, is written 0.
+fn number(s: Sampler, i: u64) -> u64 {
+    if s.family != 2 {
+        let all = s.bases;
+        return sixth(all, i);
     }
-    l
+    let polynomials = s.polynomials;
+    let p = sixth(polynomials, i);
+    if p == 1 { 0 } else { p }
 }
 
-// The bases of a plan.
-fn bases(l: Lines, out: &mut [u8], s: Sampler) -> Lines {
-    let all = s.bases;
+// The numbers of a plan's axes.
+fn axes(l: Lines, out: &mut [u8], s: Sampler) -> Lines {
     let mut next = l;
-    let mut i = 0;
-    while i < 6 {
-        next = base(next, out, i < s.axes, all[i]);
+    let mut i: usize = 0;
+    while i < s.axes {
+        next = put_between(next, out, b" ", number(s, i as u64), b"");
         i += 1;
     }
     next
 }
 
-// The family, and the bases if it has any.
+// The family, and the bases or the polynomials.
 fn plan(l: Lines, out: &mut [u8], s: Sampler) -> Lines {
     let family = s.family;
     match family {
-        0 => bases(put(l, out, b"Halton, bases"), out, s),
-        1 => bases(put(l, out, b"Permuted Halton, bases"), out, s),
-        _ => put(l, out, b"Sobol"),
+        0 => axes(put(l, out, b"Halton, bases"), out, s),
+        1 => axes(put(l, out, b"Permuted Halton, bases"), out, s),
+        _ => axes(put(l, out, b"Sobol"), out, s),
     }
 }
 

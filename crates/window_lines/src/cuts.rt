@@ -1,21 +1,21 @@
-// The fractions of a line.
+// The cuts of a line.
 use job::Job;
 use words::Number;
 ghost use mathlib.Core.Path.{_≡_};
 ghost use Prim.Native.Nat.{_≤_};
 ghost use lib.ListN.{length};
 
-// What is wrong with a fraction: 0 is nothing.
-const NOT_A_FRACTION: u64 = 1;
+// What is wrong with a cut: 0 is nothing.
+const NOT_A_CUT: u64 = 1;
 
 const TOO_LARGE: u64 = 2;
 
-const BAD_DENOMINATOR: u64 = 3;
+const BAD_Q: u64 = 3;
 
-const ABOVE_ONE: u64 = 4;
+const ABOVE_Q: u64 = 4;
 
 // A cut: u of q, or what is wrong with it.
-struct Fraction {
+struct Cut {
     wrong: u64,
     u: u64,
     q: u64,
@@ -28,42 +28,42 @@ pub struct Cuts {
     pub cuts: [u64; 12],
 }
 
-// No fraction, and why.
-fn wrong(why: u64) -> Fraction {
-    Fraction {
+// No cut, and why.
+fn wrong(why: u64) -> Cut {
+    Cut {
         wrong: why,
         u: 0,
         q: 0,
     }
 }
 
-// A fraction in the range that a window takes.
-fn in_range(u: u64, q: u64) -> Fraction {
+// A cut in the range that a window takes.
+fn in_range(u: u64, q: u64) -> Cut {
     if q == 0 {
-        return wrong(BAD_DENOMINATOR);
+        return wrong(BAD_Q);
     }
     if 16777216 < q {
-        return wrong(BAD_DENOMINATOR);
+        return wrong(BAD_Q);
     }
     if q < u {
-        return wrong(ABOVE_ONE);
+        return wrong(ABOVE_Q);
     }
-    Fraction { wrong: 0, u, q }
+    Cut { wrong: 0, u, q }
 }
 
 // What is wrong with a number that is none.
 fn no_value(n: Number) -> u64 {
     match n {
         Number::TooLarge => TOO_LARGE,
-        _ => NOT_A_FRACTION,
+        _ => NOT_A_CUT,
     }
 }
 
-// The fraction that a word spells.
-fn read_fraction(word: &[u8]) -> Fraction {
+// The cut that a word spells.
+fn read_cut(word: &[u8]) -> Cut {
     let slash = bytes::scan::find(word, 0, word.len(), b'/');
     if slash == word.len() {
-        return wrong(NOT_A_FRACTION);
+        return wrong(NOT_A_CUT);
     }
     let after = slash + 1;
     let above = words::decimal(&word[0..slash]);
@@ -77,7 +77,7 @@ fn read_fraction(word: &[u8]) -> Fraction {
     in_range(u, q)
 }
 
-// The first six fractions from `from` on, or as many as are good and the first that is not.
+// The first six cuts from `from` on, or as many as are good and the first that is not.
 pub fn read_cuts(line: &[u8], from: usize) -> Cuts
     requires { ⌜ from ≤ length (now line) ⌝ }
     ensures { λ r. ⌜ (r .axes ≤ 6) × (length (r .cuts) ≡ 12) ⌝ }
@@ -93,7 +93,7 @@ pub fn read_cuts(line: &[u8], from: usize) -> Cuts
         if start == end {
             break;
         }
-        let f = read_fraction(&line[start..end]);
+        let f = read_cut(&line[start..end]);
         wrong = f.wrong;
         cuts[2 * i] = f.u;
         cuts[2 * i + 1] = f.q;
@@ -107,8 +107,8 @@ pub fn read_cuts(line: &[u8], from: usize) -> Cuts
     }
 }
 
-// Says what is wrong with the fraction of an axis.
-pub fn bad_fraction(j: Job, out: &mut [u8], axis: usize, wrong: u64) -> Job {
+// Says what is wrong with the cut of an axis.
+pub fn bad_cut(j: Job, out: &mut [u8], axis: usize, wrong: u64) -> Job {
     let begun = job::fail(j, out);
     let said = job::say_between(begun, out, b"axis ", axis as u64, b": ");
     match wrong {
@@ -117,8 +117,8 @@ pub fn bad_fraction(j: Job, out: &mut [u8], axis: usize, wrong: u64) -> Job {
             out,
             b"expected U and Q to be at most 18446744073709551615",
         ),
-        BAD_DENOMINATOR => job::end(said, out, b"the denominator must be 1 to 16777216"),
-        ABOVE_ONE => job::end(said, out, b"the numerator must be at most the denominator"),
-        _ => job::end(said, out, b"expected a fraction U/Q of two decimal numbers"),
+        BAD_Q => job::end(said, out, b"Q must be 1 to 16777216"),
+        ABOVE_Q => job::end(said, out, b"U must be at most Q"),
+        _ => job::end(said, out, b"expected a cut U/Q of two decimal numbers"),
     }
 }

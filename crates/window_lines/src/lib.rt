@@ -1,11 +1,9 @@
-// A line `window U/Q U/Q ..`, with one fraction for each axis, or `window NAME = U/Q U/Q ..`: the window's cuts and its name, or what is wrong with
+// A line `window U/Q U/Q ..`, with one cut for each axis, or `window NAME = U/Q U/Q ..`: the window's cuts and its name, or what is wrong with
 // them.
 mod cuts;
 
-use cuts::Cuts;
 use cuts::read_cuts;
 use job::Job;
-ghost use mathlib.Core.Path.{_≡_};
 ghost use Prim.Native.Nat.{_+_, _≤_};
 ghost use lib.ListN.{length};
 ghost use Rattle.window_lines.specs.Within.{Within};
@@ -41,28 +39,51 @@ fn not_good(j: Job) -> WindowRead
     }
 }
 
-// The name from `from` on: the word before a word `=`.
+// The name from `from` on: the word before a word `=`, and not itself `=`.
 fn find_name(text: &[u8], from: usize) -> Name
     requires { ⌜ from ≤ length (now text) ⌝ }
     ensures { λ r. ⌜ (r .start ≤ r .end) × (r .end ≤ length (now (text .entry))) × (r .after ≤ length (now (text .entry))) ⌝ }
 {
     let w = words::find(text, from);
+    let start = w.start;
     let end = w.end;
     let v = words::find(text, end);
     let a = v.start;
     let e = v.end;
     if check::same(&text[a..e], b"=") {
-        return Name {
-            start: w.start,
-            end,
-            after: e,
-        };
+        if !check::same(&text[start..end], b"=") {
+            return Name {
+                start,
+                end,
+                after: e,
+            };
+        }
     }
     Name {
         start: from,
         end: from,
         after: from,
     }
+}
+
+// Whether one of the words from `from` on is `=`.
+fn has_sign(text: &[u8], from: usize) -> bool
+    requires { ⌜ from ≤ length (now text) ⌝ }
+{
+    let mut at = from;
+    while at < text.len() {
+        let w = words::find(text, at);
+        let start = w.start;
+        let end = w.end;
+        if start == end {
+            return false;
+        }
+        if check::same(&text[start..end], b"=") {
+            return true;
+        }
+        at = end;
+    }
+    false
 }
 
 // Whether all bytes of a word are printable ASCII.
@@ -90,20 +111,20 @@ fn bad_name(j: Job, out: &mut [u8]) -> Job {
     )
 }
 
-// Not one fraction for each axis.
+// Not one cut for each axis.
 fn not_each(j: Job, out: &mut [u8], axes: usize, got: usize) -> Job {
     let begun = job::fail(j, out);
     let said = job::say_between(
         begun,
         out,
-        b"expected a fraction U/Q for each of the ",
+        b"expected a cut U/Q for each of the ",
         axes as u64,
         b" axes, got ",
     );
     job::end_number(said, out, b"", got as u64)
 }
 
-// The window of a named or nameless line, with as many fractions as the plan has axes.
+// The window of a named or nameless line, with as many cuts as the plan has axes.
 fn read_window(j: Job, out: &mut [u8], text: &[u8], n: Name) -> WindowRead
     requires { ⌜ (n .start ≤ n .end) × (n .end ≤ n .start + 32) × (n .end ≤ length (now text)) × (n .after ≤ length (now text)) ⌝ }
     ensures { λ r. ⌜ Within r (length (now (text .entry))) ⌝ }
@@ -115,7 +136,7 @@ fn read_window(j: Job, out: &mut [u8], text: &[u8], n: Name) -> WindowRead
     }
     let c = read_cuts(text, n.after);
     if c.wrong != 0 {
-        return not_good(cuts::bad_fraction(j, out, c.axes, c.wrong));
+        return not_good(cuts::bad_cut(j, out, c.axes, c.wrong));
     }
     let all = c.cuts;
     WindowRead {
@@ -140,6 +161,9 @@ pub fn window_line(j: Job, out: &mut [u8], text: &[u8], from: usize) -> WindowRe
         return not_good(job::error(j, out, b"expected a run before the window"));
     }
     let n = find_name(text, from);
+    if has_sign(text, n.after) {
+        return not_good(job::error(j, out, b"expected one word before ="));
+    }
     let start = n.start;
     let end = n.end;
     if 32 < end - start {

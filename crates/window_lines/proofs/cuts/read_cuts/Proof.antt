@@ -18,17 +18,17 @@ loop-holds c = search needs
 find-requires : tie.Need-find-requires Inv-loop μ-loop
 find-requires c κs = search needs
 
-sub-read-fraction : tie.Need-sub-read-fraction Inv-loop μ-loop
-sub-read-fraction c = search needs
+sub-read-cut : tie.Need-sub-read-cut Inv-loop μ-loop
+sub-read-cut c = search needs
 
-part-read-fraction-start : tie.Need-part-read-fraction-start Inv-loop μ-loop
-part-read-fraction-start c = search needs
+part-read-cut-start : tie.Need-part-read-cut-start Inv-loop μ-loop
+part-read-cut-start c = search needs
 
-part-read-fraction-end : tie.Need-part-read-fraction-end Inv-loop μ-loop
-part-read-fraction-end c = search needs
+part-read-cut-end : tie.Need-part-read-cut-end Inv-loop μ-loop
+part-read-cut-end c = search needs
 
-read-fraction-requires : tie.Need-read-fraction-requires Inv-loop μ-loop
-read-fraction-requires c κs = search needs
+read-cut-requires : tie.Need-read-cut-requires Inv-loop μ-loop
+read-cut-requires c κs = search needs
 
 mul-cuts : tie.Need-mul-cuts Inv-loop μ-loop
 mul-cuts c = search needs
@@ -77,10 +77,10 @@ read-cuts-spec =
     μ-loop
     loop-holds
     find-requires
-    sub-read-fraction
-    part-read-fraction-start
-    part-read-fraction-end
-    read-fraction-requires
+    sub-read-cut
+    part-read-cut-start
+    part-read-cut-end
+    read-cut-requires
     mul-cuts
     mul-cuts-2
     array-write-cuts
