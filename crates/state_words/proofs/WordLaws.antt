@@ -10,7 +10,8 @@ use lib.Seq.{take-add, take-all, drop-length, drop-cons, length-take-le, getD-se
 use Rattle.bits.specs.Stream.{overwrite}
 use Rattle.bits.proofs.OverwriteLaws.{over-append, over-start}
 use Rattle.state.specs.declared.Sampler.{Sampler}
-use Rattle.state_words.specs.Words.{Sized, wordsOf, part, fromWords, wordOf, poked}
+use Rattle.fitting.specs.Fits.{Sized}
+use Rattle.state_words.specs.Words.{wordsOf, part, fromWords, wordOf, poked}
 
 pub words-length : (s : Sampler) → Sized s → length (wordsOf s) ≡ 215
 unfolding wordsOf

@@ -1,16 +1,8 @@
 -- A state as a row of 215 words, in the struct's order, and one of them set. Definitions only.
-use mathlib.Core.Path.{_≡_}
 use mathlib.Core.List.{List, [], _∷_, _++_}
 use Prim.Native.Nat.{ℕ}
-use lib.ListN.{length, take, drop, getD, set}
+use lib.ListN.{take, drop, getD, set}
 use Rattle.state.specs.declared.Sampler.{Sampler}
-
--- every array has its length
-pub record Sized (s : Sampler) : Type 0 where
-  pub bases : length (s .bases) ≡ 6
-  pub polynomials : length (s .polynomials) ≡ 6
-  pub directions : length (s .directions) ≡ 192
-  pub numerators : length (s .numerators) ≡ 6
 
 -- every word of a state
 unfoldable pub wordsOf : Sampler → List ℕ

@@ -1,7 +1,7 @@
 -- Six stores in a row are one, of the words of the state. Assumes nothing.
 use mathlib.Core.Path.{refl, sym}
 use native.Mathlib.Omega.{arith}
-use Rattle.state_words.specs.Words.{Sized}
+use Rattle.fitting.specs.Fits.{Sized}
 use Rattle.state_words.proofs.WordLaws.{stored}
 use borrow.Author.Needs.{needs}
 use Rattle.state_words.proofs.words_of.Statement.{statement}
