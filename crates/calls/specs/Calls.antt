@@ -10,7 +10,7 @@ use Rattle.plan.specs.Plan.{spell}
 use Rattle.plan.specs.Reading.{Reading, refused, accepted, readPlan}
 use Rattle.plan.specs.Order.{Condition, _when_, firstDue, unlessDue}
 use Rattle.points.specs.Point.{pointOf, slotOf}
-use Rattle.points.specs.Run.{Run, runOf, inRange, runPoint, runPoints}
+use Rattle.points.specs.Run.{Run, runOf, inRange, runNumerator, runPoint, runPoints}
 use Rattle.writer.specs.declared.PlanWritten.{PlanWritten}
 use Rattle.state.specs.State.{made, blank, planIn, runIn, genuine}
 use Rattle.state.specs.declared.Sampler.{Sampler}
@@ -46,6 +46,18 @@ noPointRoom s buf = ltb (length buf) (s .axes)
 abbrev pub noPlanRoom : Sampler → List ℕ → Bool
 noPlanRoom s buf = ltb (length buf) (length (spell (planIn s)))
 
+-- ---- the orders that a run's calls share with their twins of a day set (02-change-requests.md, K1)
+
+abbrev pub openOrder : Bool → Bool → List Condition
+openOrder isForeign outOfRange = 15 when isForeign ∷ 11 when outOfRange ∷ []
+
+abbrev pub jumpOrder : Bool → Bool → Bool → List Condition
+jumpOrder isForeign outOfRange noRoom = 15 when isForeign ∷ 11 when outOfRange ∷ 13 when noRoom ∷ []
+
+-- steps and blocks
+abbrev pub runOrder : Bool → Bool → Bool → List Condition
+runOrder isForeign isSpent noRoom = 15 when isForeign ∷ 12 when isSpent ∷ 13 when noRoom ∷ []
+
 -- ---- read: the numbers 1 to 10
 
 unfoldable pub readState : Reading → Moved
@@ -74,7 +86,7 @@ writeBuf s buf = unlessDue (writeRefusals s buf) (spell (planIn s) ++ drop (leng
 -- ---- open
 
 abbrev pub openRefusals : Sampler → Run → List Condition
-openRefusals s r = 15 when foreign s ∷ 11 when not (inRange r) ∷ []
+openRefusals s r = openOrder (foreign s) (not (inRange r))
 
 unfoldable pub openSpec : Sampler → Run → Moved
 openSpec s r = moved (firstDue (openRefusals s r)) (unlessDue (openRefusals s r) (made (planIn s) r 0) s)
@@ -82,7 +94,7 @@ openSpec s r = moved (firstDue (openRefusals s r)) (unlessDue (openRefusals s r)
 -- ---- jump
 
 abbrev pub jumpRefusals : Sampler → ℕ → List ℕ → List Condition
-jumpRefusals s n buf = 15 when foreign s ∷ 11 when beyond n ∷ 13 when noPointRoom s buf ∷ []
+jumpRefusals s n buf = jumpOrder (foreign s) (beyond n) (noPointRoom s buf)
 
 unfoldable pub jumpSpec : Sampler → ℕ → List ℕ → Jumped
 jumpSpec s n buf = record { code = firstDue (jumpRefusals s n buf) }
@@ -94,7 +106,7 @@ jumpBuf s n buf = unlessDue (jumpRefusals s n buf) (pointOf (planIn s) n ++ drop
 -- ---- step and block
 
 abbrev pub runRefusals : Sampler → List ℕ → List Condition
-runRefusals s buf = 15 when foreign s ∷ 12 when spent s ∷ 13 when noPointRoom s buf ∷ []
+runRefusals s buf = runOrder (foreign s) (spent s) (noPointRoom s buf)
 
 unfoldable pub stepSpec : Sampler → List ℕ → Moved
 stepSpec s buf = moved (firstDue (runRefusals s buf)) (unlessDue (runRefusals s buf) (made (planIn s) (runIn s) (s .taken + 1)) s)
@@ -117,6 +129,23 @@ unfoldable pub blockBuf : Sampler → List ℕ → List ℕ
 blockBuf s buf =
     unlessDue (runRefusals s buf)
     (runPoints (planIn s) (runIn s) (s .taken) (blockSize s buf) ++ drop (blockSize s buf * s .axes) buf) buf
+
+-- ---- rows: a block with so many words before each point, `lead`, which stay as they are; a block has none, a day set's has one
+
+abbrev pub rowsRefusals : ℕ → Sampler → List ℕ → List Condition
+rowsRefusals lead s buf = runOrder (foreign s) (spent s) (ltb (length buf) (lead + s .axes))
+
+abbrev pub rowsSize : ℕ → Sampler → List ℕ → ℕ
+rowsSize lead s buf = min (s .count - s .taken) (length buf / (lead + s .axes))
+
+unfoldable pub rowsSpec : ℕ → Sampler → List ℕ → Blocked
+rowsSpec lead s buf =
+    blocked (firstDue (rowsRefusals lead s buf)) (unlessDue (rowsRefusals lead s buf) (rowsSize lead s buf) 0)
+    (unlessDue (rowsRefusals lead s buf) (made (planIn s) (runIn s) (s .taken + rowsSize lead s buf)) s)
+
+-- the numerator of axis i in row k
+unfoldable pub rowNumerator : Sampler → ℕ → ℕ → ℕ
+rowNumerator s i k = runNumerator (planIn s) (runIn s) (s .taken + k) i
 
 -- ---- second
 

@@ -1,0 +1,92 @@
+-- What each call on a day set answers, for all inputs, and what each lent word then holds (02-change-requests.md, K1). Each checks in the order of
+-- its run twin. A refusal answers its number and zero for every other number, the day set as given (a refused making: the one that is all zero),
+-- and changes no lent word. Definitions only.
+use mathlib.Core.Bool.{Bool, not}
+use mathlib.Core.List.{List, _++_}
+use Prim.Native.Nat.{ℕ, _+_, _-_, _*_, _/_, _^_, min}
+use lib.Dec.{ltb, leb}
+use lib.ListN.{length, drop}
+use Rattle.plan.specs.Order.{Condition, firstDue, unlessDue}
+use Rattle.state.specs.State.{planIn}
+use Rattle.state.specs.declared.Sampler.{Sampler}
+use Rattle.calls.specs.Calls.{foreign, openOrder, jumpOrder, runOrder}
+use Rattle.calls.specs.declared.Jumped.{Jumped}
+use Rattle.day_set.specs.DaySet.{dayPoint, dayPoints, dayMade, dayBlank, dayPlan, daySize, dayTaken, dayWidth, genuineDay}
+use Rattle.day_set.specs.declared.DaySet.{DaySet}
+use Rattle.day_set.specs.declared.DayMoved.{DayMoved}
+use Rattle.day_set.specs.declared.DayBlocked.{DayBlocked}
+
+abbrev pub dayMoved : ℕ → DaySet → DayMoved
+dayMoved n d = record { code = n; set = d }
+
+abbrev pub dayBlocked : ℕ → ℕ → DaySet → DayBlocked
+dayBlocked n k d = record { code = n; points = k; set = d }
+
+-- ---- the conditions
+
+-- 15, foreign: no accepted making, with accepted steps and blocks after it, leaves the day set
+abbrev pub foreignDay : DaySet → Bool
+foreignDay d = not (genuineDay d)
+
+-- 11, range: a size above 2^32, or a point number that is not below the size
+abbrev pub tooLarge : ℕ → Bool
+tooLarge N = ltb (2 ^ 32) N
+
+abbrev pub pastDay : DaySet → ℕ → Bool
+pastDay d n = leb (daySize d) n
+
+-- 12, spent: no point is left
+abbrev pub spentDay : DaySet → Bool
+spentDay d = leb (daySize d) (dayTaken d)
+
+-- 13, room: the buffer is shorter than one point
+abbrev pub noDayRoom : DaySet → List ℕ → Bool
+noDayRoom d buf = ltb (length buf) (dayWidth d)
+
+-- ---- make, the twin of open: the set of N points of the state's plan, whatever its run
+
+abbrev pub makeRefusals : Sampler → ℕ → List Condition
+makeRefusals s N = openOrder (foreign s) (tooLarge N)
+
+unfoldable pub makeSpec : Sampler → ℕ → DayMoved
+makeSpec s N = dayMoved (firstDue (makeRefusals s N)) (unlessDue (makeRefusals s N) (dayMade (planIn s) N 0) dayBlank)
+
+-- ---- jump
+
+abbrev pub dayJumpRefusals : DaySet → ℕ → List ℕ → List Condition
+dayJumpRefusals d n buf = jumpOrder (foreignDay d) (pastDay d n) (noDayRoom d buf)
+
+unfoldable pub dayJumpSpec : DaySet → ℕ → List ℕ → Jumped
+dayJumpSpec d n buf = record { code = firstDue (dayJumpRefusals d n buf) }
+
+-- point n
+unfoldable pub dayJumpBuf : DaySet → ℕ → List ℕ → List ℕ
+dayJumpBuf d n buf = unlessDue (dayJumpRefusals d n buf) (dayPoint (dayPlan d) n ++ drop (dayWidth d) buf) buf
+
+-- ---- step and block
+
+abbrev pub dayRunRefusals : DaySet → List ℕ → List Condition
+dayRunRefusals d buf = runOrder (foreignDay d) (spentDay d) (noDayRoom d buf)
+
+unfoldable pub dayStepSpec : DaySet → List ℕ → DayMoved
+dayStepSpec d buf =
+    dayMoved (firstDue (dayRunRefusals d buf)) (unlessDue (dayRunRefusals d buf) (dayMade (dayPlan d) (daySize d) (dayTaken d + 1)) d)
+
+-- the next point
+unfoldable pub dayStepBuf : DaySet → List ℕ → List ℕ
+dayStepBuf d buf = unlessDue (dayRunRefusals d buf) (dayPoint (dayPlan d) (dayTaken d) ++ drop (dayWidth d) buf) buf
+
+-- as many points as are left and fit whole
+abbrev pub dayBlockSize : DaySet → List ℕ → ℕ
+dayBlockSize d buf = min (daySize d - dayTaken d) (length buf / dayWidth d)
+
+unfoldable pub dayBlockSpec : DaySet → List ℕ → DayBlocked
+dayBlockSpec d buf =
+    dayBlocked (firstDue (dayRunRefusals d buf)) (unlessDue (dayRunRefusals d buf) (dayBlockSize d buf) 0)
+    (unlessDue (dayRunRefusals d buf) (dayMade (dayPlan d) (daySize d) (dayTaken d + dayBlockSize d buf)) d)
+
+-- those points, one after another
+unfoldable pub dayBlockBuf : DaySet → List ℕ → List ℕ
+dayBlockBuf d buf =
+    unlessDue (dayRunRefusals d buf)
+    (dayPoints (dayPlan d) (dayTaken d) (dayBlockSize d buf) ++ drop (dayBlockSize d buf * dayWidth d) buf) buf

@@ -1,0 +1,55 @@
+-- A day set: the Hammersley set of an accepted plan (02-change-requests.md, K1; source document 002, section 4). Of N points the one with number
+-- n, from 0 to N - 1, has the leading axis n / N and then the plan's axes at index n. A day set is held as a sampler whose run has start 0 and
+-- count N. Definitions only.
+use mathlib.Core.Bool.{Bool}
+use mathlib.Core.List.{List, [], _∷_, _++_}
+use Prim.Native.Nat.{ℕ, zero, suc, _+_}
+use lib.Dec.{eqb}
+use Rattle.plan.specs.Plan.{Plan}
+use Rattle.points.specs.Point.{pointOf}
+use Rattle.points.specs.Run.{Run, runOf}
+use Rattle.state.specs.State.{both, made, blank, planIn, genuine}
+use Rattle.day_set.specs.declared.DaySet.{DaySet}
+
+-- ---- its points
+
+-- point n: its numerator on the leading axis, whose denominator is N, then the plan's point of index n
+unfoldable pub dayPoint : Plan → ℕ → List ℕ
+dayPoint p n = n ∷ pointOf p n
+
+-- the points n, n + 1, .., n + k - 1, one after another
+unfoldable pub dayPoints : Plan → ℕ → ℕ → List ℕ
+dayPoints p n zero = []
+dayPoints p n (suc k) = dayPoints p n k ++ dayPoint p (n + k)
+
+-- ---- its state
+
+-- the run over the points of a day set of N
+abbrev pub dayRun : ℕ → Run
+dayRun N = runOf 0 N
+
+-- the day set of N points of this plan, so many of which are taken
+unfoldable pub dayMade : Plan → ℕ → ℕ → DaySet
+dayMade p N taken = record { run = made p (dayRun N) taken }
+
+-- the day set that is all zero
+unfoldable pub dayBlank : DaySet
+dayBlank = record { run = blank }
+
+-- the plan that a day set holds, and the numbers of its points and of those taken
+abbrev pub dayPlan : DaySet → Plan
+dayPlan d = planIn (d .run)
+
+abbrev pub daySize : DaySet → ℕ
+daySize d = d .run .count
+
+abbrev pub dayTaken : DaySet → ℕ
+dayTaken d = d .run .taken
+
+-- one word for the leading axis and one for each axis of the plan
+abbrev pub dayWidth : DaySet → ℕ
+dayWidth d = suc (d .run .axes)
+
+-- The test: a genuine sampler whose run has start 0. Any other day set is foreign (number 15).
+unfoldable pub genuineDay : DaySet → Bool
+genuineDay d = both (eqb (d .run .start) 0) (genuine (d .run))

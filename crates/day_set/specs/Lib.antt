@@ -1,0 +1,4 @@
+pub mod DaySet
+pub mod Calls
+pub mod History
+pub mod Serving
