@@ -1,3 +1,4 @@
+pub mod Joined
 pub mod DaySet
 pub mod Calls
 pub mod History
