@@ -59,6 +59,21 @@ same-room long axes h =
     ⊎-elim (λ l. lt-ltb (long - 1) axes (omega arith) ∙ sym (lt-ltb long (suc axes) l)) (λ l. le-ltb (long - 1) axes (omega arith) ∙ sym (le-ltb long (suc axes) l))
     (lt-or-ge long (suc axes))
 
+-- ---- a foreign day set
+
+module _ (d : DaySet) (buf : List ℕ) (g : genuineDay d ≡ false) where
+  pub day-jump-foreign : (n : ℕ) → (dayJumpSpec d n buf ≡ record { code = 15 }) × (dayJumpBuf d n buf ≡ buf)
+  unfolding dayJumpSpec dayJumpBuf firstDue unlessDue
+  day-jump-foreign n = (rw g refl, rw g refl)
+
+  pub day-step-foreign : (dayStepSpec d buf ≡ dayMoved 15 d) × (dayStepBuf d buf ≡ buf)
+  unfolding dayStepSpec dayStepBuf firstDue unlessDue
+  day-step-foreign = (rw g refl, rw g refl)
+
+  pub day-block-foreign : (dayBlockSpec d buf ≡ dayBlocked 15 0 d) × (dayBlockBuf d buf ≡ buf)
+  unfolding dayBlockSpec dayBlockBuf firstDue unlessDue
+  day-block-foreign = (rw g refl, rw g refl)
+
 -- ---- make
 
 pub make-wraps : (s : Sampler) (N : ℕ)

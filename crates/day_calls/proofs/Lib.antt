@@ -1,0 +1,2 @@
+-- Laws of a point with its number in front.
+mod FrontLaws

@@ -1,0 +1,87 @@
+// The calls that make and serve a day set. Each tests that the run starts at 0, and leaves the other tests to its run twin.
+use calls::Jumped;
+use day_set::DayBlocked;
+use day_set::DayMoved;
+use day_set::DaySet;
+use plan::refusal;
+use state::Sampler;
+ghost use mathlib.Core.Path.{_≡_};
+ghost use Prim.Native.Nat.{_^_, _<_, _≤_};
+ghost use lib.ListN.{length, set};
+ghost use Rattle.plan.specs.Order.{unlessNumber};
+ghost use Rattle.day_set.specs.Calls.{makeSpec, dayJumpSpec, dayJumpBuf, dayStepSpec, dayStepBuf, dayBlockSpec, dayBlockBuf};
+
+// Makes the day set of `size` points of a state's plan, whatever the state's run.
+pub fn make_day_set(s: Sampler, size: u64) -> DayMoved
+    ensures { λ r. ⌜ r ≡ makeSpec s size ⌝ }
+{
+    let r = plan_calls::open(s, 0, size);
+    if r.code != 0 {
+        return DayMoved {
+            code: r.code,
+            set: day_set::blank_day_set(),
+        };
+    }
+    let run = r.state;
+    DayMoved {
+        code: 0,
+        set: DaySet { run },
+    }
+}
+
+// The index of point `n`, and one that is out of range where the set of `size` points has no such point.
+fn index_of(n: u64, size: u64) -> u64
+    ensures { λ r. ⌜ (n < size → r ≡ n) × (size ≤ n → r ≡ 2 ^ 32) ⌝ }
+{
+    if n < size { n } else { numbers::INDEXES }
+}
+
+// Puts a point's number into the first word, where the point was written behind it.
+fn put_number(code: u64, n: u64, out: &mut [u64])
+    requires { ⌜ (code ≡ 0 → 1 ≤ length (now out)) ⌝ }
+    ensures { λ r. ⌜ now (out .exit) ≡ unlessNumber code (set (now (out .entry)) 0 n) (now (out .entry)) ⌝ }
+{
+    if code != 0 {
+        return;
+    }
+    out[0] = n;
+}
+
+// Writes point `n` to the front of `out`: n, and the plan's point of index n behind it.
+pub fn day_jump(d: DaySet, n: u64, out: &mut [u64]) -> Jumped
+    ensures { λ r. ⌜ (r ≡ dayJumpSpec d n (now (out .entry))) × (now (out .exit) ≡ dayJumpBuf d n (now (out .entry))) ⌝ }
+{
+    let s = d.run;
+    if s.start != 0 {
+        return Jumped {
+            code: refusal::INVALID_STATE,
+        };
+    }
+    let index = index_of(n, s.count);
+    let first = columns::least(1, out.len());
+    let r = index_calls::jump(s, index, &mut out[first..]);
+    put_number(r.code, n, out);
+    r
+}
+
+// Writes the next point to the front of `out`, and moves on by one.
+pub fn day_step(d: DaySet, out: &mut [u64]) -> DayMoved
+    ensures { λ r. ⌜ (r ≡ dayStepSpec d (now (out .entry))) × (now (out .exit) ≡ dayStepBuf d (now (out .entry))) ⌝ }
+{
+    let s = d.run;
+    if s.start != 0 {
+        return DayMoved {
+            code: refusal::INVALID_STATE,
+            set: d,
+        };
+    }
+    let n = s.taken;
+    let first = columns::least(1, out.len());
+    let r = run_calls::step(s, &mut out[first..]);
+    put_number(r.code, n, out);
+    let run = r.state;
+    DayMoved {
+        code: r.code,
+        set: DaySet { run },
+    }
+}
