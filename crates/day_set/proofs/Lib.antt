@@ -1,3 +1,6 @@
--- Laws of day sets: their points, each answer of each call on one, and what calls in a row come to.
+-- Laws of day sets: each answer of each call on one, how it comes from the run's, and what calls in a row come to.
 pub mod JoinedLaws
 pub mod CaseLaws
+pub mod OrderLaws
+pub mod DayLaws
+pub mod HistoryLaws
