@@ -4,3 +4,4 @@ pub mod CaseLaws
 pub mod OrderLaws
 pub mod DayLaws
 pub mod HistoryLaws
+pub mod ServingLaws
