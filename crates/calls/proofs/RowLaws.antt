@@ -8,7 +8,7 @@ use native.Mathlib.Nat.{zero-add, add-assoc, le-trans, mul-le-mul-right, div-mul
 use native.Mathlib.Omega.{arith}
 use lib.ListN.{length, drop}
 use Rattle.columns.specs.Rows.{Columns, rows}
-use Rattle.columns.proofs.ColumnLaws.{columns-unchanged, columns-list}
+use Rattle.columns.proofs.ColumnLaws.{columns-empty, columns-rows, columns-unchanged, columns-list}
 use Rattle.plan.specs.Order.{firstDue}
 use Rattle.points.specs.Point.{numeratorOf}
 use Rattle.points.specs.Run.{runPoint, runPoints}
@@ -16,9 +16,9 @@ use Rattle.points.specs.Arrays.{numeratorFrom}
 use Rattle.points.proofs.RunLaws.{run-numerator}
 use Rattle.state.specs.State.{planIn, runIn, genuine}
 use Rattle.state.specs.declared.Sampler.{Sampler}
-use Rattle.calls.specs.Calls.{runRefusals, blockSize, blockSpec, blockBuf, rowsSpec, rowNumerator}
+use Rattle.calls.specs.Calls.{blocked, runRefusals, blockSize, blockSpec, blockBuf, rowsRefusals, rowsSpec, rowNumerator}
 use Rattle.calls.specs.declared.Blocked.{Blocked}
-use Rattle.calls.proofs.CaseLaws.{run-cleared, block-refused, block-done}
+use Rattle.calls.proofs.CaseLaws.{run-cleared, block-refused, block-done, rows-refused}
 use Rattle.calls.proofs.PointLaws.{axes-are, axes-few, known-numerator}
 
 -- ---- how many
@@ -39,6 +39,15 @@ module _ (s : Sampler) where
       known-numerator s g i l (s .start + s .taken + k)
       ∙ ap (λ (n : ℕ). numeratorOf (planIn s) n i) (add-assoc (s .start) (s .taken) k)
       ∙ sym (run-numerator (planIn s) (runIn s) (s .taken + k) i)
+
+  -- ---- a refusal: no points, and no word changed
+
+  pub rows-none : (lead : ℕ) (buf : List ℕ) (r : Blocked) (n : ℕ) → firstDue (rowsRefusals lead s buf) ≡ suc n → r ≡ blocked (suc n) 0 s
+      → (r ≡ rowsSpec lead s buf) × Columns (rowNumerator s) 0 (r .points) (lead + s .axes) lead (s .axes) buf buf
+  rows-none lead buf r n e h = (
+    h ∙ sym (rows-refused lead s buf n e),
+    columns-rows (columns-empty (rowNumerator s) 0 (lead + s .axes) lead (s .axes) buf) (ap (λ (x : Blocked). x .points) (sym h)),
+  )
 
   -- ---- without leading words
 
