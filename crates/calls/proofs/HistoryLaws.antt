@@ -88,11 +88,11 @@ after-leaves (opened {s} h r z) =
     of-made (l .plan) (l .valid) (l .spelled) r 0 (record { in-range = o .0; not-past = omega arith }) (o .1)
 after-leaves (stepped {s} h buf z) =
     let l = after-leaves h in
-    let left = run-cleared s buf z .1 in
+    let left = run-cleared (genuine s) s buf (s .axes) z .1 in
     next l (runIn s) (s .taken + 1) (record { in-range = l .run .in-range; not-past = omega arith }) (ap (λ (a : _). a .state) (step-done s buf z .0))
 after-leaves (filled {s} h buf z) =
     let l = after-leaves h in
-    let left = run-cleared s buf z .1 in
+    let left = run-cleared (genuine s) s buf (s .axes) z .1 in
     let few = min-le-left (s .count - s .taken) (length buf / s .axes) in
     next l (runIn s) (s .taken + blockSize s buf) (record { in-range = l .run .in-range; not-past = omega arith }) (ap (λ (a : _). a .state) (block-done s buf z .0))
 

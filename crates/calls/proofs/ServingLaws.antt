@@ -19,7 +19,7 @@ use Rattle.points.specs.Point.{axisCount, pointOf}
 use Rattle.points.specs.Run.{Run, runOf, inRange, runPoints}
 use Rattle.points.proofs.PointLaws.{axis-count, point-of-length}
 use Rattle.points.proofs.RunLaws.{range-is, run-point, run-points-one, run-points-more, run-points-length, run-points-at}
-use Rattle.state.specs.State.{made}
+use Rattle.state.specs.State.{made, genuine}
 use Rattle.state.specs.declared.Sampler.{Sampler}
 use Rattle.calls.specs.Calls.{readState, readSpec, openSpec, runRefusals, jumpSpec, jumpBuf, stepSpec, stepBuf, blockSpec}
 use Rattle.calls.specs.History.{read, Request, step, block, lentTo, movedBy, writtenBy, stateAfter, pointsServed, AllRoom}
@@ -87,7 +87,7 @@ module _ (p : Plan) (v : Valid p) (r : Run) (fits : inRange r ≡ true) where
       where
         go : (n : ℕ) → firstDue (runRefusals (made p r taken) (lentTo q)) ≡ n → (s : Serves p r taken (movedBy q (made p r taken)) (writtenBy q (made p r taken)))
             × (axisCount p ≤ length (lentTo q) → taken < r .count → 1 ≤ s .many)
-        go zero e = let c = run-cleared (made p r taken) (lentTo q) e in let s = some (c .1) q (c .2) in (s .0, λ room l. s .1)
+        go zero e = let c = run-cleared (genuine (made p r taken)) (made p r taken) (lentTo q) (axisCount p) e in let s = some (c .1) q (c .2) in (s .0, λ room l. s .1)
         go (suc n) e = (nothing n q e, λ room l. absurd (omega (arith, e, clear p v r fits (lentTo q) room taken l)))
 
   -- ---- requests in a row

@@ -1,6 +1,6 @@
 -- A run with one start: each axis reads the start plus the step, so that its points are those of the indexes from the start on; and parts of it
 -- join. Assumes nothing.
-use mathlib.Core.Path.{_≡_, refl, sym, ap, ap₂, _∙_}
+use mathlib.Core.Path.{_≡_, refl, sym, ap, _∙_}
 use mathlib.Core.Bool.{true, false}
 use mathlib.Core.Logic.{⊎-elim}
 use mathlib.Core.List.{_++_, append-assoc, append-nil}
@@ -13,11 +13,9 @@ use lib.Seq.{take-at, drop-at}
 use borrow.Author.Tests.{leb-true, le-leb, lt-leb}
 use Rattle.numbers.proofs.Cases.{lt-or-ge}
 use Rattle.numbers.proofs.ListedLaws.{listed-length}
-use Rattle.plan.specs.Plan.{Plan, Valid}
-use Rattle.points.specs.Point.{axisCount, pointOf}
-use Rattle.points.specs.Arrays.{familyOf, basesArray, directionsArray, pointsAt}
+use Rattle.plan.specs.Plan.{Plan}
+use Rattle.points.specs.Point.{axisCount, numeratorOf, pointOf}
 use Rattle.points.specs.Run.{Run, indexAt, inRange, runNumerator, runPoint, runPoints}
-use Rattle.points.proofs.ArrayLaws.{listed-at-plan}
 
 -- ---- the range
 
@@ -44,6 +42,10 @@ range-left r h =
 -- ---- the points
 
 module _ (p : Plan) (r : Run) where
+  pub run-numerator : (t i : ℕ) → runNumerator p r t i ≡ numeratorOf p (r .start + t) i
+  unfolding runNumerator indexAt
+  run-numerator t i = refl
+
   pub run-point : (t : ℕ) → runPoint p r t ≡ pointOf p (r .start + t)
   unfolding runPoint runNumerator indexAt pointOf
   run-point t = refl
@@ -76,12 +78,3 @@ module _ (p : Plan) (r : Run) where
       ∙ ap (λ (x : _). runPoints p r t j ++ x) (run-points-more (t + j) 1 (k - j - 1) ∙ ap (λ (x : _). x ++ runPoints p r (t + j + 1) (k - j - 1)) (run-points-one (t + j))) in
       rw (split, drop-at (runPoints p r t j) (runPoint p r (t + j) ++ runPoints p r (t + j + 1) (k - j - 1)) (j * axisCount p) (run-points-length t j))
       (take-at (runPoint p r (t + j)) (runPoints p r (t + j + 1) (k - j - 1)) (axisCount p) (run-point-length (t + j)))
-
-  -- by the plan's arrays, from the index of step t on
-  pub run-points-at-plan : Valid p → (t k : ℕ)
-      → pointsAt (familyOf p) (axisCount p) (basesArray p) (directionsArray p) (r .start + t) k ≡ runPoints p r t k
-  unfolding pointsAt runPoints
-  run-points-at-plan v t zero = refl
-  run-points-at-plan v t (suc k) =
-      ap₂ _++_ (run-points-at-plan v t k)
-      (listed-at-plan p v (r .start + t + k) ∙ ap (pointOf p) (add-assoc (r .start) t k) ∙ sym (run-point (t + k)))
