@@ -140,19 +140,24 @@ last-run (filled {s} h buf z) = ap (λ (a : _). runIn (a .state)) (block-done s 
 
 -- ---- number 15
 
--- an order that begins with it gives it exactly where no accepted calls leave the state
-pub foreign-iff : (s : Sampler) (order : List Condition) → (firstDue order ≡ 15 → ⊥)
-    → (firstDue (15 when foreign s ∷ order) ≡ 15) ↔ (AfterCalls s → ⊥)
-foreign-iff s order f = (
-  λ e h. true≢false (sym (after-iff s .0 h) ∙ not-true (genuine s) (first-iff 15 (foreign s) order f .0 e)),
-  λ none. first-iff 15 (foreign s) order f .1 (go (genuine s) refl none),
+-- an order that begins with a test's refusal gives it exactly where what the test decides does not hold
+pub test-iff : {P : Type 0} (test : Bool) → P ↔ (test ≡ true) → (order : List Condition) → (firstDue order ≡ 15 → ⊥)
+    → (firstDue (15 when not test ∷ order) ≡ 15) ↔ (P → ⊥)
+test-iff {P} test decides order f = (
+  λ e h. true≢false (sym (decides .0 h) ∙ not-true test (first-iff 15 (not test) order f .0 e)),
+  λ none. first-iff 15 (not test) order f .1 (go test refl none),
 )
   where
-    go : (b : Bool) → genuine s ≡ b → (AfterCalls s → ⊥) → not (genuine s) ≡ true
-    go true e none = absurd (none (after-iff s .1 e))
+    go : (b : Bool) → test ≡ b → (P → ⊥) → not test ≡ true
+    go true e none = absurd (none (decides .1 e))
     go false e none = rw e refl
 
-none-15 : firstDue [] ≡ 15 → ⊥
+-- so no accepted calls leave the state
+pub foreign-iff : (s : Sampler) (order : List Condition) → (firstDue order ≡ 15 → ⊥)
+    → (firstDue (15 when foreign s ∷ order) ≡ 15) ↔ (AfterCalls s → ⊥)
+foreign-iff s = test-iff (genuine s) (after-iff s)
+
+pub none-15 : firstDue [] ≡ 15 → ⊥
 none-15 = none-given 15 (λ e. omega arith)
 
 module _ (s : Sampler) where

@@ -4,5 +4,6 @@ pub mod PointLaws
 pub mod RowLaws
 pub mod RunLaws
 pub mod HistoryLaws
+pub mod ServerLaws
 pub mod ServingLaws
 pub mod RoundTrip

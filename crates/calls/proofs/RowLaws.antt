@@ -7,6 +7,7 @@ use Prim.Native.Nat.{ℕ, zero, suc, _+_, _*_, _/_, _≤_, _<_, min}
 use native.Mathlib.Nat.{zero-add, add-assoc, le-trans, mul-le-mul-right, div-mul-le-self, min-le-left, min-le-right}
 use native.Mathlib.Omega.{arith}
 use lib.ListN.{length, drop}
+use Rattle.numbers.specs.Listed.{joined}
 use Rattle.columns.specs.Rows.{Columns, rows}
 use Rattle.columns.proofs.ColumnLaws.{columns-empty, columns-rows, columns-unchanged, columns-list}
 use Rattle.plan.specs.Order.{firstDue}
@@ -52,7 +53,7 @@ module _ (s : Sampler) where
   -- ---- without leading words
 
   rows-points : genuine s ≡ true → (k : ℕ) → rows (rowNumerator s) (s .axes) k ≡ runPoints (planIn s) (runIn s) (s .taken) k
-  unfolding rows rowNumerator runPoints runPoint
+  unfolding rows rowNumerator joined runPoint
   rows-points g zero = refl
   rows-points g (suc k) = rw (rows-points g k, ← axes-are s g) refl
 

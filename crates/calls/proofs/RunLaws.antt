@@ -8,6 +8,7 @@ use native.Mathlib.Nat.{min-le-left}
 use native.Mathlib.Omega.{arith}
 use lib.ListN.{length, take, drop}
 use lib.Seq.{take-at}
+use Rattle.numbers.specs.Listed.{joined}
 use Rattle.plan.specs.Plan.{Plan, Valid}
 use Rattle.plan.specs.Order.{firstDue}
 use Rattle.points.specs.Point.{axisCount, numeratorOf, denominatorOf, pointOf, slotOf}
@@ -94,7 +95,7 @@ module _ (p : Plan) (v : Valid p) (r : Run) (fits : inRange r ≡ true) where
 
     -- k steps give the points of k steps of the run
     pub steps-serve : (k : ℕ) → taken + k ≤ r .count → stepsPoints k (made p r taken) bufs ≡ runPoints p r taken k
-    unfolding stepsPoints runPoints made
+    unfolding stepsPoints joined made
     steps-serve zero h = refl
     steps-serve (suc k) h =
         ap₂ _++_ (steps-serve k (omega arith))

@@ -18,10 +18,11 @@ use Rattle.state.specs.State.{made, genuine}
 use Rattle.state.proofs.SameLaws.{true-both}
 use Rattle.state.proofs.PlanLaws.{plan-in-made}
 use Rattle.state.proofs.GenuineLaws.{made-genuine}
+use Rattle.calls.proofs.CaseLaws.{run-spent, run-clear}
 use Rattle.day_set.specs.DaySet.{dayPoint, dayPoints, dayRun, dayMade, genuineDay}
 use Rattle.day_set.specs.Calls.{dayMoved, dayBlocked, makeSpec, dayJumpSpec, dayJumpBuf, dayRunRefusals, dayStepSpec, dayStepBuf, dayBlockSpec, dayBlockBuf}
 use Rattle.day_set.specs.Serving.{widthOf}
-use Rattle.day_set.proofs.OrderLaws.{make-done, day-jump-past, day-jump-done, day-spent, day-clear, day-step-refused, day-step-done, day-block-refused, day-block-done}
+use Rattle.day_set.proofs.OrderLaws.{make-done, day-jump-past, day-jump-done, day-step-refused, day-step-done, day-block-refused, day-block-done}
 
 pub day-point-length : (p : Plan) (n : ℕ) → length (dayPoint p n) ≡ widthOf p
 unfolding dayPoint
@@ -45,7 +46,8 @@ module _ (p : Plan) (v : Valid p) where
     module _ (taken : ℕ) (buf : List ℕ) where
       module _ (room : widthOf p ≤ length buf) (h : taken < N) where
         pub day-none : firstDue (dayRunRefusals (dayMade p N taken) buf) ≡ 0
-        day-none = day-clear (dayMade p N taken) buf (day-genuine taken (omega arith)) (unfold dayMade made in h) (unfold dayMade made in room)
+        unfolding dayMade made
+        day-none = run-clear (dayMade p N taken .run) buf (widthOf p) (day-genuine taken (omega arith)) h room
 
         pub day-step-at : (dayStepSpec (dayMade p N taken) buf ≡ dayMoved 0 (dayMade p N (taken + 1)))
             × (dayStepBuf (dayMade p N taken) buf ≡ dayPoint p taken ++ drop (widthOf p) buf)
@@ -63,7 +65,8 @@ module _ (p : Plan) (v : Valid p) where
 
       module _ (e : taken ≡ N) where
         over : firstDue (dayRunRefusals (dayMade p N taken) buf) ≡ 12
-        over = day-spent (dayMade p N taken) buf (day-genuine taken (omega arith)) (unfold dayMade made in omega arith)
+        unfolding dayMade made
+        over = run-spent (dayMade p N taken .run) buf (widthOf p) (day-genuine taken (omega arith)) (omega arith)
 
         pub day-step-over : dayStepSpec (dayMade p N taken) buf .code ≡ 12
         day-step-over = ap (λ (a : _). a .code) (day-step-refused (dayMade p N taken) buf 11 over .0)

@@ -1,7 +1,7 @@
 -- The history of a day set by calls: it is genuine exactly where an accepted making, with accepted steps and blocks after it, leaves it, and a call
 -- answers 15 exactly where none does. Assumes nothing.
 use mathlib.Core.Path.{_≡_, refl, sym, ap, _∙_, subst}
-use mathlib.Core.Bool.{Bool, true, false, not, true≢false}
+use mathlib.Core.Bool.{true}
 use mathlib.Core.Logic.{_↔_}
 use mathlib.Core.List.{List, [], _∷_}
 use Prim.Native.Nat.{ℕ, zero, suc, _+_, _-_, _/_, _^_, _≤_}
@@ -9,24 +9,24 @@ use native.Mathlib.Nat.{min-le-left}
 use native.Mathlib.Numerals.{add-one}
 use native.Mathlib.Omega.{arith}
 use lib.ListN.{length, replicate, length-replicate}
-use borrow.Author.Tests.{not-true}
 use Rattle.plan.specs.Plan.{Plan, Valid, spell}
 use Rattle.plan.specs.Order.{Condition, _when_, firstDue}
-use Rattle.plan.proofs.OrderLaws.{none-given, other-due, first-iff}
+use Rattle.plan.proofs.OrderLaws.{other-due}
 use Rattle.points.specs.Run.{runOf, inRange}
 use Rattle.points.proofs.RunLaws.{range-is, is-range}
 use Rattle.state.specs.State.{made, planIn, runIn, genuine}
 use Rattle.state.specs.declared.Sampler.{Sampler}
 use Rattle.state.proofs.GenuineLaws.{Permitted, genuine-is}
 use Rattle.calls.specs.History.{After, AfterCalls}
-use Rattle.calls.proofs.HistoryLaws.{foreign-iff, Leaves, of-made, leaves-genuine, leaves-plan, none-opened, after-leaves, after-steps}
+use Rattle.calls.proofs.CaseLaws.{run-cleared}
+use Rattle.calls.proofs.HistoryLaws.{test-iff, foreign-iff, none-15, Leaves, of-made, leaves-genuine, leaves-plan, none-opened, after-leaves, after-steps}
 use Rattle.day_set.specs.DaySet.{dayOf, dayRun, dayMade, dayPlan, daySize, dayTaken, dayWidth, genuineDay}
 use Rattle.day_set.specs.Calls.{foreignDay, makeSpec, dayJumpSpec, dayRunRefusals, dayStepSpec, dayBlockSize, dayBlockSpec}
 use Rattle.day_set.specs.History.{DayAfter, make, stepped, filled, sizeMade, DayAfterCalls}
 use Rattle.day_set.specs.Serving.{widthOf}
 use Rattle.day_set.specs.declared.DaySet.{DaySet}
 use Rattle.day_set.proofs.CaseLaws.{by-run, day-is}
-use Rattle.day_set.proofs.OrderLaws.{make-accepted, make-done, day-cleared, day-step-done, day-block-done}
+use Rattle.day_set.proofs.OrderLaws.{make-accepted, make-done, day-step-done, day-block-done}
 use Rattle.day_set.proofs.DayLaws.{make-at, day-genuine, day-step-at}
 
 -- ---- accepted calls leave a sampler of the plan that was read, whose run starts at 0
@@ -74,10 +74,10 @@ day-after-leaves (make {s} h N z) =
     let m = make-leaves l N z in
     day-of-made (l .plan) (l .valid) (l .spelled) N (m .0) 0 (omega arith) (m .1)
 day-after-leaves (stepped {d} h buf z) =
-    let left = day-cleared d buf z .1 in
+    let left = run-cleared (genuineDay d) (d .run) buf (dayWidth d) z .1 in
     next (day-after-leaves h) (dayTaken d + 1) (omega arith) (ap (λ (a : _). a .set) (day-step-done d buf z .0))
 day-after-leaves (filled {d} h buf z) =
-    let left = day-cleared d buf z .1 in
+    let left = run-cleared (genuineDay d) (d .run) buf (dayWidth d) z .1 in
     let few = min-le-left (daySize d - dayTaken d) (length buf / dayWidth d) in
     next (day-after-leaves h) (dayTaken d + dayBlockSize d buf) (omega arith) (ap (λ (a : _). a .set) (day-block-done d buf z .0))
 
@@ -121,20 +121,9 @@ size-made (filled {d} h buf z) = ap (λ (a : _). daySize (a .set)) (day-block-do
 
 -- ---- number 15
 
--- an order that begins with it gives it exactly where no accepted calls leave the day set
 pub day-foreign-iff : (d : DaySet) (order : List Condition) → (firstDue order ≡ 15 → ⊥)
     → (firstDue (15 when foreignDay d ∷ order) ≡ 15) ↔ (DayAfterCalls d → ⊥)
-day-foreign-iff d order f = (
-  λ e h. true≢false (sym (day-after-iff d .0 h) ∙ not-true (genuineDay d) (first-iff 15 (foreignDay d) order f .0 e)),
-  λ none. first-iff 15 (foreignDay d) order f .1 (go (genuineDay d) refl none),
-)
-  where
-    go : (b : Bool) → genuineDay d ≡ b → (DayAfterCalls d → ⊥) → not (genuineDay d) ≡ true
-    go true e none = absurd (none (day-after-iff d .1 e))
-    go false e none = rw e refl
-
-none-15 : firstDue [] ≡ 15 → ⊥
-none-15 = none-given 15 (λ e. omega arith)
+day-foreign-iff d = test-iff (genuineDay d) (day-after-iff d)
 
 pub make-foreign-iff : (s : Sampler) (N : ℕ) → (makeSpec s N .code ≡ 15) ↔ (AfterCalls s → ⊥)
 unfolding makeSpec

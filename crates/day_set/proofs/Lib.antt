@@ -1,5 +1,4 @@
 -- Laws of day sets: each answer of each call on one, how it comes from the run's, and what calls in a row come to.
-pub mod JoinedLaws
 pub mod CaseLaws
 pub mod OrderLaws
 pub mod DayLaws

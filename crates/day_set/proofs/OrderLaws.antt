@@ -4,14 +4,14 @@ use mathlib.Core.Bool.{true, false}
 use mathlib.Core.List.{List, [], _++_}
 use Prim.Native.Nat.{ℕ, suc, _+_, _*_, _^_, _≤_, _<_}
 use lib.ListN.{length, drop}
-use borrow.Author.Tests.{lt-ltb, le-ltb, le-leb, lt-leb, ltb-false, leb-false, not-false}
+use borrow.Author.Tests.{lt-ltb, le-ltb, le-leb, lt-leb, ltb-false, not-false}
 use Rattle.plan.specs.Order.{firstDue, unlessDue}
 use Rattle.plan.proofs.OrderLaws.{none-due}
 use Rattle.state.specs.State.{planIn, genuine}
 use Rattle.state.specs.declared.Sampler.{Sampler}
 use Rattle.calls.specs.Calls.{foreign}
 use Rattle.day_set.specs.DaySet.{dayPoint, dayPoints, dayMade, dayBlank, dayPlan, daySize, dayTaken, dayWidth, genuineDay}
-use Rattle.day_set.specs.Calls.{dayMoved, dayBlocked, foreignDay, tooLarge, spentDay, noDayRoom, makeSpec, dayJumpSpec, dayJumpBuf, dayRunRefusals, dayStepSpec, dayStepBuf, dayBlockSize, dayBlockSpec, dayBlockBuf}
+use Rattle.day_set.specs.Calls.{dayMoved, dayBlocked, tooLarge, makeSpec, dayJumpSpec, dayJumpBuf, dayRunRefusals, dayStepSpec, dayStepBuf, dayBlockSize, dayBlockSpec, dayBlockBuf}
 use Rattle.day_set.specs.declared.DaySet.{DaySet}
 
 -- ---- make
@@ -54,25 +54,6 @@ module _ (d : DaySet) (n : ℕ) (buf : List ℕ) (g : genuineDay d ≡ true) whe
 -- ---- step and block
 
 module _ (d : DaySet) (buf : List ℕ) where
-  module _ (g : genuineDay d ≡ true) where
-    pub day-spent : daySize d ≤ dayTaken d → firstDue (dayRunRefusals d buf) ≡ 12
-    unfolding firstDue
-    day-spent h = rw (g, le-leb (daySize d) (dayTaken d) h) refl
-
-    pub day-clear : dayTaken d < daySize d → dayWidth d ≤ length buf → firstDue (dayRunRefusals d buf) ≡ 0
-    unfolding firstDue
-    day-clear h r = rw (g, lt-leb (daySize d) (dayTaken d) h, le-ltb (length buf) (dayWidth d) r) refl
-
-  -- where none is due, each test passes
-  pub day-cleared : firstDue (dayRunRefusals d buf) ≡ 0 → (genuineDay d ≡ true) × (dayTaken d < daySize d) × (dayWidth d ≤ length buf)
-  day-cleared e =
-      let a = none-due 14 (foreignDay d) _ e in
-      let b = none-due 11 (spentDay d) _ (a .1) in (
-        not-false (genuineDay d) (a .0),
-        leb-false (daySize d) (dayTaken d) (b .0),
-        ltb-false (length buf) (dayWidth d) (none-due 12 (noDayRoom d buf) [] (b .1) .0),
-      )
-
   module _ (n : ℕ) (e : firstDue (dayRunRefusals d buf) ≡ suc n) where
     pub day-step-refused : (dayStepSpec d buf ≡ dayMoved (suc n) d) × (dayStepBuf d buf ≡ buf)
     unfolding dayStepSpec dayStepBuf unlessDue

@@ -1,66 +1,59 @@
 -- Demand 2 of a day set by the calls' own answers: after an accepted reading and an accepted making, any steps and blocks serve its points in their
 -- order, n in front, exactly N of them, and then 12; and a jump gives the same points. Assumes nothing.
-use mathlib.Core.Path.{_≡_, refl, sym, ap, ap₂, _∙_, subst}
-use mathlib.Core.Logic.{_↔_, _⊎_, inl, inr, ⊎-elim}
-use mathlib.Core.List.{List, [], _∷_, _++_}
+use mathlib.Core.Path.{_≡_, refl, sym, ap, _∙_, subst}
+use mathlib.Core.Logic.{_↔_, _⊎_, ⊎-elim}
+use mathlib.Core.List.{List, []}
 use Prim.Native.Nat.{ℕ, zero, suc, _+_, _-_, _*_, _/_, _^_, _≤_, _<_, min}
-use native.Mathlib.Nat.{add-zero, add-assoc, zero-mul, one-mul, min-le-left, le-div-iff-mul-le}
+use native.Mathlib.Nat.{add-zero, zero-mul, min-le-left}
 use native.Mathlib.Omega.{arith}
 use lib.ListN.{length, take, drop}
 use lib.Seq.{take-at}
-use Rattle.numbers.proofs.Cases.{lt-or-ge}
+use Rattle.numbers.specs.Listed.{joined}
 use Rattle.plan.specs.Plan.{Plan, Valid, spell}
 use Rattle.plan.specs.Order.{firstDue}
 use Rattle.state.specs.State.{made}
 use Rattle.calls.specs.History.{After, Request, step, block, lentTo, AllRoom}
+use Rattle.calls.proofs.CaseLaws.{run-cleared}
+use Rattle.calls.proofs.ServerLaws.{whole, Serves, ServesOne, all-serve}
 use Rattle.calls.proofs.HistoryLaws.{leaves-genuine, after-leaves}
 use Rattle.state.specs.declared.Sampler.{Sampler}
-use Rattle.day_set.specs.Joined.{joined}
-use Rattle.day_set.specs.DaySet.{dayPoint, dayPoints, dayMade}
+use Rattle.day_set.specs.DaySet.{dayPoint, dayPoints, dayMade, genuineDay}
 use Rattle.day_set.specs.Calls.{makeSpec, dayJumpSpec, dayJumpBuf, dayRunRefusals, dayStepSpec, dayStepBuf, dayBlockSpec}
-use Rattle.day_set.specs.History.{dayMovedBy, dayWrittenBy, dayAfter, dayServed}
+use Rattle.day_set.specs.History.{dayMovedBy, dayWrittenBy, dayServer, dayAfter, dayServed}
 use Rattle.day_set.specs.Serving.{widthOf, ServesDay}
 use Rattle.day_set.specs.declared.DaySet.{DaySet}
-use Rattle.day_set.proofs.JoinedLaws.{joined-one, joined-more, joined-length, joined-at}
-use Rattle.day_set.proofs.OrderLaws.{make-done, day-cleared, day-step-refused, day-block-refused}
+use Rattle.numbers.proofs.JoinedLaws.{joined-one, joined-length, joined-at}
+use Rattle.day_set.proofs.OrderLaws.{make-done, day-step-refused, day-block-refused}
 use Rattle.day_set.proofs.DayLaws.{day-point-length, day-none, day-step-at, day-step-point, day-block-at, day-step-over, day-block-over, day-jump-at, day-past}
 use Rattle.day_set.proofs.HistoryLaws.{make-leaves}
-
--- many points of the day set, after so many taken, are served: the day set that is left, and the points written
-pub record DayServes (p : Plan) (N taken : ℕ) (d : DaySet) (points : List ℕ) : Type 0 where
-  pub many : ℕ
-  pub within : taken + many ≤ N
-  pub set-is : d ≡ dayMade p N (taken + many)
-  pub points-are : points ≡ dayPoints p taken many
-
--- a buffer with room for a point has room for a whole one
-whole : (width room : ℕ) → 1 ≤ width → width ≤ room → 1 ≤ room / width
-whole width room h l = le-div-iff-mul-le {k = width} h .1 (omega (arith, one-mul width))
 
 module _ (p : Plan) (v : Valid p) (N : ℕ) (fits : N ≤ 2 ^ 32) where
   -- ---- one request
 
+  abbrev DayServes : ℕ → DaySet → List ℕ → Type 0
+  DayServes = Serves (dayMade p N) (dayPoint p) N
+
   module _ (taken : ℕ) (h : taken ≤ N) where
     -- refused
     nothing : (n : ℕ) (q : Request) → firstDue (dayRunRefusals (dayMade p N taken) (lentTo q)) ≡ suc n
-        → DayServes p N taken (dayMovedBy q (dayMade p N taken)) (dayWrittenBy q (dayMade p N taken))
+        → DayServes taken (dayMovedBy q (dayMade p N taken)) (dayWrittenBy q (dayMade p N taken))
     unfolding dayMovedBy dayWrittenBy joined
     nothing n (step buf) e =
         let a = day-step-refused (dayMade p N taken) buf n e .0 in
-        record { many = 0; within = omega arith; set-is = ap (λ (x : _). x .set) a ∙ ap (dayMade p N) (sym (add-zero taken)); points-are = rw a refl }
+        record { many = 0; within = omega arith; state-is = ap (λ (x : _). x .set) a ∙ ap (dayMade p N) (sym (add-zero taken)); points-are = rw a refl }
     nothing n (block buf) e =
         let a = day-block-refused (dayMade p N taken) buf n e .0 in
-        record { many = 0; within = omega arith; set-is = ap (λ (x : _). x .set) a ∙ ap (dayMade p N) (sym (add-zero taken)); points-are = rw (a, zero-mul) refl }
+        record { many = 0; within = omega arith; state-is = ap (λ (x : _). x .set) a ∙ ap (dayMade p N) (sym (add-zero taken)); points-are = rw (a, zero-mul) refl }
 
     some : taken < N → (q : Request) → widthOf p ≤ length (lentTo q)
-        → (s : DayServes p N taken (dayMovedBy q (dayMade p N taken)) (dayWrittenBy q (dayMade p N taken))) × (1 ≤ s .many)
+        → (s : DayServes taken (dayMovedBy q (dayMade p N taken)) (dayWrittenBy q (dayMade p N taken))) × (1 ≤ s .many)
     unfolding dayMovedBy dayWrittenBy dayMade made
     some l (step buf) room =
         let a = day-step-at p v N fits taken buf room l .0 in (
           record {
             many = 1;
             within = omega arith;
-            set-is = ap (λ (x : _). x .set) a;
+            state-is = ap (λ (x : _). x .set) a;
             points-are = rw a (day-step-point p v N fits taken buf room l ∙ sym (joined-one (dayPoint p) taken));
           },
           omega arith,
@@ -72,46 +65,26 @@ module _ (p : Plan) (v : Valid p) (N : ℕ) (fits : N ≤ 2 ^ 32) where
           record {
             many = k;
             within = omega arith;
-            set-is = ap (λ (x : _). x .set) (a .0);
+            state-is = ap (λ (x : _). x .set) (a .0);
             points-are = rw (a .0, a .1) (take-at (dayPoints p taken k) (drop (k * widthOf p) buf) (k * widthOf p) (joined-length (dayPoint p) (widthOf p) (day-point-length p) taken k));
           },
           omega (arith, whole (widthOf p) (length buf) (omega arith) room),
         )
 
-    one : (q : Request) → (s : DayServes p N taken (dayMovedBy q (dayMade p N taken)) (dayWrittenBy q (dayMade p N taken)))
-        × (widthOf p ≤ length (lentTo q) → taken < N → 1 ≤ s .many)
+    one : (q : Request) → ServesOne dayServer (dayMade p N) (dayPoint p) N (widthOf p) taken q
     unfolding dayMade made
     one q = go (firstDue (dayRunRefusals (dayMade p N taken) (lentTo q))) refl
       where
-        go : (n : ℕ) → firstDue (dayRunRefusals (dayMade p N taken) (lentTo q)) ≡ n
-            → (s : DayServes p N taken (dayMovedBy q (dayMade p N taken)) (dayWrittenBy q (dayMade p N taken))) × (widthOf p ≤ length (lentTo q) → taken < N → 1 ≤ s .many)
-        go zero e = let c = day-cleared (dayMade p N taken) (lentTo q) e in let s = some (c .1) q (c .2) in (s .0, λ room l. s .1)
+        go : (n : ℕ) → firstDue (dayRunRefusals (dayMade p N taken) (lentTo q)) ≡ n → ServesOne dayServer (dayMade p N) (dayPoint p) N (widthOf p) taken q
+        go zero e = let c = run-cleared (genuineDay (dayMade p N taken)) (dayMade p N taken .run) (lentTo q) (widthOf p) e in let s = some (c .1) q (c .2) in (s .0, λ room l. s .1)
         go (suc n) e = (nothing n q e, λ room l. absurd (omega (arith, e, day-none p v N fits taken (lentTo q) room l)))
 
   -- ---- requests in a row
 
-  -- each request with room serves a point at least while one is left
   pub day-requests-serve : (requests : List Request) (taken : ℕ) → taken ≤ N
-      → (s : DayServes p N taken (dayAfter requests (dayMade p N taken)) (dayServed requests (dayMade p N taken)))
+      → (s : DayServes taken (dayAfter requests (dayMade p N taken)) (dayServed requests (dayMade p N taken)))
       × (AllRoom (widthOf p) requests → (length requests ≤ s .many) ⊎ (taken + s .many ≡ N))
-  unfolding dayAfter dayServed AllRoom joined
-  day-requests-serve [] taken h =
-      (record { many = 0; within = omega arith; set-is = ap (dayMade p N) (sym (add-zero taken)); points-are = refl }, λ room. inl (omega arith))
-  day-requests-serve (q ∷ requests) taken h =
-      let a = one taken h q in
-      let j = a .0 .many in
-      let b = day-requests-serve requests (taken + j) (a .0 .within) in
-      let k = b .0 .many in (
-        record {
-          many = j + k;
-          within = omega (arith, b .0 .within);
-          set-is = ap (dayAfter requests) (a .0 .set-is) ∙ b .0 .set-is ∙ ap (dayMade p N) (add-assoc taken j k);
-          points-are = ap₂ _++_ (a .0 .points-are) (ap (dayServed requests) (a .0 .set-is) ∙ b .0 .points-are) ∙ sym (joined-more (dayPoint p) taken j k);
-        },
-        λ room. ⊎-elim
-            (λ m. ⊎-elim (λ l. inl (omega (arith, a .1 (room .0) l, m))) (λ l. inr (omega (arith, b .0 .within))) (lt-or-ge taken N))
-            (λ e. inr (omega arith)) (b .1 (room .1)),
-      )
+  day-requests-serve = all-serve dayServer (dayMade p N) (dayPoint p) N (widthOf p) one
 
   pub day-serves : (requests : List Request) → ServesDay p N requests (dayServed requests (dayMade p N 0)) (dayAfter requests (dayMade p N 0))
   day-serves requests =
@@ -119,7 +92,7 @@ module _ (p : Plan) (v : Valid p) (N : ℕ) (fits : N ≤ 2 ^ 32) where
       let k = a .0 .many in
       let zero-k : 0 + k ≡ k = omega arith in
       let d = dayAfter requests (dayMade p N 0) in
-      let is : d ≡ dayMade p N k = a .0 .set-is ∙ ap (dayMade p N) zero-k in
+      let is : d ≡ dayMade p N k = a .0 .state-is ∙ ap (dayMade p N) zero-k in
       record {
         served = k;
         within = omega (arith, a .0 .within);

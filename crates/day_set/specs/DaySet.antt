@@ -5,12 +5,12 @@ use mathlib.Core.Bool.{Bool}
 use mathlib.Core.List.{List, _∷_}
 use Prim.Native.Nat.{ℕ, suc}
 use lib.Dec.{eqb}
+use Rattle.numbers.specs.Listed.{joined}
 use Rattle.plan.specs.Plan.{Plan}
 use Rattle.points.specs.Point.{pointOf}
 use Rattle.points.specs.Run.{Run, runOf}
 use Rattle.state.specs.State.{both, made, blank, planIn, genuine}
 use Rattle.state.specs.declared.Sampler.{Sampler}
-use Rattle.day_set.specs.Joined.{joined}
 use Rattle.day_set.specs.declared.DaySet.{DaySet}
 
 -- ---- its points

@@ -1,4 +1,3 @@
-pub mod Joined
 pub mod DaySet
 pub mod Calls
 pub mod History

@@ -6,7 +6,7 @@ use native.Mathlib.Nat.{add-zero, add-suc, add-assoc, zero-mul, suc-mul}
 use native.Mathlib.Omega.{arith}
 use lib.ListN.{length, take, drop, length-append}
 use lib.Seq.{take-at, drop-at}
-use Rattle.day_set.specs.Joined.{joined}
+use Rattle.numbers.specs.Listed.{joined}
 
 module _ (f : ℕ → List ℕ) where
   pub joined-one : (t : ℕ) → joined f t 1 ≡ f t
