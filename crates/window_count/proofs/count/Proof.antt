@@ -40,7 +40,7 @@ returns : tie.Need-returns
 returns c = c .refused .ensures ∙ sym (count-foreign _ _ (foreign (c .before)))
 
 is-window-requires : tie.Need-is-window-requires
-is-window-requires c κs = axes-few _ (known c) .1
+is-window-requires c κs = omega (arith, axes-few _ (known c))
 
 refused-requires-2 : tie.Need-refused-requires-2
 refused-requires-2 c κs = search needs
