@@ -68,7 +68,7 @@ module _ (buf : List ℕ) (first : ℕ) (one : first ≤ 1) (within : first ≤ 
 module _ (s : Sampler) (buf : List ℕ) where
   pub step-room : stepSpec s (drop 1 buf) .code ≡ 0 → 1 ≤ length buf
   unfolding stepSpec
-  step-room z = let c = run-cleared s (drop 1 buf) z in omega (arith, c .2, axes-few s (c .0) .0, length-drop 1 buf)
+  step-room z = let c = run-cleared (genuine s) s (drop 1 buf) (s .axes) z in omega (arith, c .2, axes-few s (c .0) .0, length-drop 1 buf)
 
   pub step-kept : (k : ℕ) → stepSpec s buf .code ≡ suc k → stepBuf s buf ≡ buf
   unfolding stepSpec

@@ -1,2 +1,3 @@
--- Laws of a point with its number in front.
+-- Laws of points with their numbers in front.
 mod FrontLaws
+mod RowLaws

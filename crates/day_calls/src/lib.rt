@@ -6,8 +6,9 @@ use day_set::DaySet;
 use plan::refusal;
 use state::Sampler;
 ghost use mathlib.Core.Path.{_≡_};
-ghost use Prim.Native.Nat.{_^_, _<_, _≤_};
+ghost use Prim.Native.Nat.{_+_, _*_, _^_, _<_, _≤_};
 ghost use lib.ListN.{length, set};
+ghost use Rattle.columns.specs.Rows.{Column};
 ghost use Rattle.plan.specs.Order.{unlessNumber};
 ghost use Rattle.day_set.specs.Calls.{makeSpec, dayJumpSpec, dayJumpBuf, dayStepSpec, dayStepBuf, dayBlockSpec, dayBlockBuf};
 
@@ -82,6 +83,40 @@ pub fn day_step(d: DaySet, out: &mut [u64]) -> DayMoved
     let run = r.state;
     DayMoved {
         code: r.code,
+        set: DaySet { run },
+    }
+}
+// Puts the numbers from `n` on into the first words of `k` rows, where the points of so many axes were written behind them.
+fn put_numbers(code: u64, n: u64, k: usize, axes: usize, out: &mut [u64])
+    requires { ⌜ (code ≡ 0 → (axes ≤ 6) × (k * (1 + axes) ≤ length (now out)) × (n + k ≤ 2 ^ 32)) ⌝ }
+    ensures { λ r. ⌜ Column (_+_ n) 0 (unlessNumber code k 0) (1 + axes) 0 (now (out .entry)) (now (out .exit)) ⌝ }
+{
+    if code != 0 {
+        return;
+    }
+    columns::number(n, k, 1 + axes, out);
+}
+
+// Writes as many points as are left and fit whole, and moves on by that many.
+pub fn day_block(d: DaySet, out: &mut [u64]) -> DayBlocked
+    ensures { λ r. ⌜ (r ≡ dayBlockSpec d (now (out .entry))) × (now (out .exit) ≡ dayBlockBuf d (now (out .entry))) ⌝ }
+{
+    let s = d.run;
+    if s.start != 0 {
+        return DayBlocked {
+            code: refusal::INVALID_STATE,
+            points: 0,
+            set: d,
+        };
+    }
+    let axes = s.axes;
+    let n = s.taken;
+    let r = run_calls::block_rows(s, 1, out);
+    put_numbers(r.code, n, r.points as usize, axes, out);
+    let run = r.state;
+    DayBlocked {
+        code: r.code,
+        points: r.points,
         set: DaySet { run },
     }
 }
