@@ -6,7 +6,7 @@ use mathlib.Core.List.{List, _++_}
 use Prim.Native.Nat.{ℕ, zero, suc, _+_, _*_, _/_, _≤_, _<_, min}
 use native.Mathlib.Nat.{zero-add, add-assoc, le-trans, mul-le-mul-right, div-mul-le-self, min-le-left, min-le-right}
 use native.Mathlib.Omega.{arith}
-use lib.ListN.{length, drop}
+use lib.ListN.{drop}
 use Rattle.numbers.specs.Listed.{joined}
 use Rattle.columns.specs.Rows.{Columns, rows}
 use Rattle.columns.proofs.ColumnLaws.{columns-empty, columns-rows, columns-unchanged, columns-list}

@@ -4,6 +4,7 @@ use mathlib.Core.Logic.{⊎-elim}
 use mathlib.Core.List.{List, [], _∷_, _++_}
 use Prim.Native.Nat.{ℕ, zero, suc, _+_, _-_, _*_, _/_, _%_, _<_, _≤_}
 use native.Mathlib.Nat.{add-zero, zero-mul, suc-mul, add-mul, mul-le-mul-right, mod-lt, div-add-mod', div-lt-iff-lt-mul}
+use native.Mathlib.Numerals.{add-one}
 use native.Mathlib.Omega.{arith}
 use lib.Arith.{digits-mod}
 use lib.ListN.{length, getD, set, drop, length-set, length-append, length-drop, List·getD-append}
@@ -176,9 +177,12 @@ module _ {g : ℕ → ℕ → ℕ} {h : ℕ → ℕ} {s j k : ℕ} {old mid new 
   front-list w d e fits =
       columns-list (inFront h g) s k old new (columns-to (columns-front {c = 0} w d (omega arith)) (sym e)) (omega arith) fits
 
--- a row of such a list
+-- row i of such a list
 module _ (g : ℕ → ℕ → ℕ) (h : ℕ → ℕ) (i : ℕ) where
-  pub front-row : (j : ℕ) → listed (λ a. inFront h g a i) (suc j) ≡ h i ∷ listed (λ a. g a i) j
+  front-one : (j : ℕ) → listed (λ a. inFront h g a i) (suc j) ≡ h i ∷ listed (λ a. g a i) j
   unfolding listed inFront
-  front-row zero = refl
-  front-row (suc j) = ap (λ (l : List ℕ). l ++ g j i ∷ []) (front-row j)
+  front-one zero = refl
+  front-one (suc j) = ap (λ (l : List ℕ). l ++ g j i ∷ []) (front-one j)
+
+  pub front-row : (s j : ℕ) → s ≡ j + 1 → listed (λ a. inFront h g a i) s ≡ h i ∷ listed (λ a. g a i) j
+  front-row s j e = ap (listed (λ a. inFront h g a i)) (e ∙ add-one j) ∙ front-one j

@@ -1,4 +1,4 @@
--- A buffer of points as rows: s numbers a point, one for each axis, so that an axis is a column. Definitions only.
+-- A buffer of points as rows of s numbers, so that an axis is a column. Definitions only.
 use mathlib.Core.Path.{_≡_}
 use mathlib.Core.List.{List, [], _++_}
 use Prim.Native.Nat.{ℕ, zero, suc, _+_, _*_, _<_, _≤_}

@@ -48,7 +48,7 @@ loop-again c =
     let l = c .before .loop in (
       omega arith,
       omega (arith, add-mul (l .i) 1 (a .s)),
-      rw (l .inv .1) (column-more (l .inv .2) (a .n + l .i) (omega arith) (omega arith) (omega (arith, row c)) refl),
+      rw (l .inv .1) (column-more (l .inv .2) _ (omega arith) (omega arith) (omega (arith, row c)) refl),
     )
 
 same-length : tie.Need-same-length Inv-loop μ-loop
