@@ -18,7 +18,7 @@ use Rattle.calls.proofs.PointLaws.{axes-few}
 use Rattle.day_set.specs.DaySet.{dayRun, dayPlan, daySize, dayWidth, genuineDay}
 use Rattle.day_set.specs.declared.DaySet.{DaySet}
 use Rattle.day_set.proofs.CaseLaws.{day-is}
-use Rattle.window.specs.Counting.{Cut, uOf, qOf, boundOf, Cuts, cutAt, cutsOf, isWindow}
+use Rattle.window.specs.Counting.{Cut, uOf, qOf, Cuts, cutAt, cutsOf, isWindow}
 use Rattle.window.proofs.WindowLaws.{count-whole, bound-of-none}
 use Rattle.window.proofs.PlanLaws.{cuts-at}
 use Rattle.window.proofs.RangeLaws.{window-cuts}
