@@ -1,6 +1,6 @@
 -- Demand 3 for day sets (02-change-requests.md, K1): the count is that of the first m points, m × q lies within q of u × N, and the plan's bound for
 -- m points is at most that for N. Assumes nothing.
-use mathlib.Core.Path.{_≡_, refl, _∙_}
+use mathlib.Core.Path.{_≡_, refl, sym, ap, _∙_}
 use mathlib.Core.Bool.{true}
 use mathlib.Core.List.{List}
 use Prim.Native.Nat.{ℕ, suc, _+_, _*_, _^_, _≤_, _<_}
@@ -10,19 +10,31 @@ use lib.ListN.{length, drop}
 use Rattle.numbers.proofs.DigitLaws.{product-mono}
 use Rattle.discrepancy.specs.Bound.{Near}
 use Rattle.discrepancy.proofs.FitLaws.{bound-mono}
-use Rattle.plan.specs.Plan.{Plan, halton, sobol, Valid}
+use Rattle.plan.specs.Plan.{Plan, halton, sobol, Valid, spell}
 use Rattle.points.specs.Point.{axisCount}
 use Rattle.points.specs.Arrays.{familyOf}
 use Rattle.points.proofs.RunLaws.{is-range}
+use Rattle.state.specs.State.{made}
+use Rattle.state.specs.declared.Sampler.{Sampler}
+use Rattle.state.proofs.PlanLaws.{plan-in-made}
 use Rattle.state.proofs.GenuineLaws.{genuine-is, genuine-range}
 use Rattle.state.proofs.StateLaws.{genuine-holds}
-use Rattle.day_set.specs.DaySet.{dayRun, dayPlan, daySize, dayWidth}
+use Rattle.calls.specs.History.{After, Request}
+use Rattle.calls.proofs.HistoryLaws.{after-leaves}
+use Rattle.day_set.specs.DaySet.{dayRun, dayMade, dayPlan, daySize, dayWidth, genuineDay}
+use Rattle.day_set.specs.Calls.{makeSpec}
+use Rattle.day_set.specs.History.{dayAfter}
+use Rattle.day_set.specs.Serving.{widthOf}
 use Rattle.day_set.specs.declared.DaySet.{DaySet}
 use Rattle.day_set.proofs.CaseLaws.{day-is}
+use Rattle.day_set.proofs.HistoryLaws.{make-leaves}
+use Rattle.day_set.proofs.ServingLaws.{day-requests-serve}
 use Rattle.window.specs.Counting.{Cut, uOf, qOf, uProduct, qProduct, baseAt, boundOf, Cuts, cutsOf, isWindow}
 use Rattle.window.proofs.Demand3.{demand-3}
 use Rattle.window.proofs.RangeLaws.{window-cuts}
 use Rattle.window.proofs.LeadingLaws.{u-front, q-front, rest-cuts}
+use Rattle.window_count.specs.Call.{counted}
+use Rattle.window_count.specs.declared.Counted.{Counted}
 use Rattle.day_count.specs.Count.{dayInsideCount, dayBoundOf, dayCountSpec}
 use Rattle.day_count.proofs.FirstLaws.{firstOf, limit-reaches, limit-near, limit-within, day-first}
 use Rattle.day_count.proofs.CaseLaws.{day-count-accepted, day-count-done}
@@ -85,3 +97,47 @@ day-answer-near d w z f =
     let h = genuine-holds g in
     rw (day-count-done d w (a .0) (a .1))
     (plan-near (dayPlan d) (λ e. f (h .family-is ∙ e)) (g .valid) (d .run .axes) (h .axes-is) (daySize d) (omega (arith, genuine-range g)) w (a .1))
+
+-- ---- Demand 3 of day sets as one theorem about composed calls
+
+module _ (p : Plan) (v : Valid p) (N : ℕ) (small : N ≤ 2 ^ 32) (taken : ℕ) {d : DaySet} (is : d ≡ dayMade p N taken) (w : List ℕ) (z : dayCountSpec d w .code ≡ 0) where
+  abbrev cuts : List Cut
+  cuts = cutsOf w (widthOf p)
+
+  accepted : (genuineDay (dayMade p N taken) ≡ true) × (isWindow w (widthOf p) ≡ true)
+  unfolding dayMade made
+  accepted = day-count-accepted (dayMade p N taken) w (ap (λ (t : DaySet). dayCountSpec t w .code) (sym is) ∙ z)
+
+  answered : dayCountSpec d w ≡ counted 0 (dayInsideCount p cuts N) (dayBoundOf p N)
+  unfolding dayMade made
+  answered =
+      ap (λ (t : DaySet). dayCountSpec t w) is
+      ∙ (rw (plan-in-made p v (dayRun N) taken) at (day-count-done (dayMade p N taken) w (accepted .0) (accepted .1)))
+
+  composed : let a = dayCountSpec d w in (a .inside ≡ dayInsideCount p cuts N) × (a .bound ≡ dayBoundOf p N)
+      × ((familyOf p ≡ 2 → ⊥) → Near N (a .inside) (uProduct cuts (widthOf p)) (qProduct cuts (widthOf p)) (a .bound))
+  composed = (
+    ap (λ (a : Counted). a .inside) answered,
+    ap (λ (a : Counted). a .bound) answered,
+    λ f. rw answered (plan-near p f v (axisCount p) refl N small w (accepted .1)),
+  )
+
+-- Whatever calls were accepted after a reading of bytes, which then spell a valid plan p: of every day set made with code 0, after any steps and
+-- blocks, a count that takes its window answers S over the whole set and the bound; and where p is of a Halton family, S lies within that bound of
+-- the window's share.
+pub day-demand-3 : (bytes : List ℕ) {s : Sampler} → After bytes s
+    → (p : Plan) × Valid p × (bytes ≡ spell p)
+    × ((N : ℕ) → makeSpec s N .code ≡ 0 → (requests : List Request) (w : List ℕ)
+    → let a = dayCountSpec (dayAfter requests (makeSpec s N .set)) w in let cuts = cutsOf w (widthOf p) in a .code ≡ 0
+    → (a .inside ≡ dayInsideCount p cuts N) × (a .bound ≡ dayBoundOf p N)
+    × ((familyOf p ≡ 2 → ⊥) → Near N (a .inside) (uProduct cuts (widthOf p)) (qProduct cuts (widthOf p)) (a .bound)))
+day-demand-3 bytes h =
+    let l = after-leaves h in (
+      l .plan,
+      l .valid,
+      l .spelled,
+      λ N z requests w c.
+          let m = make-leaves l N z in
+          let s = day-requests-serve (l .plan) (l .valid) N (m .0) requests 0 (omega arith) .0 in
+          composed (l .plan) (l .valid) N (m .0) (0 + s .many) (ap (dayAfter requests) (m .1) ∙ s .state-is) w c,
+    )
