@@ -1,6 +1,7 @@
 -- Each answer of the day set's count, from the tests that lead to it; and what the walk over its first points counts. Assumes nothing.
 use mathlib.Core.Path.{_≡_, refl, sym, _∙_}
 use mathlib.Core.Bool.{true, false, not, cond}
+use mathlib.Core.Logic.{_↔_}
 use mathlib.Core.List.{List, []}
 use Prim.Native.Nat.{ℕ, _+_, _^_, _<_}
 use native.Mathlib.Omega.{arith}
@@ -10,14 +11,17 @@ use borrow.Author.Tests.{eq-eqb, ne-eqb, not-false}
 use Rattle.numbers.specs.Count.{count}
 use Rattle.plan.specs.Plan.{Plan, halton, sobol, Valid}
 use Rattle.plan.specs.Order.{firstDue, unlessDue}
-use Rattle.plan.proofs.OrderLaws.{none-due}
+use Rattle.plan.proofs.OrderLaws.{none-due, other-due}
 use Rattle.points.specs.Arrays.{familyOf}
 use Rattle.state.proofs.GenuineLaws.{Genuine, genuine-is, genuine-range}
 use Rattle.state.proofs.StateLaws.{genuine-holds}
+use Rattle.calls.proofs.HistoryLaws.{none-15}
 use Rattle.day_set.specs.DaySet.{dayRun, dayPlan, daySize, dayWidth, genuineDay}
 use Rattle.day_set.specs.Calls.{foreignDay}
+use Rattle.day_set.specs.History.{DayAfterCalls}
 use Rattle.day_set.specs.declared.DaySet.{DaySet}
 use Rattle.day_set.proofs.CaseLaws.{day-is}
+use Rattle.day_set.proofs.HistoryLaws.{day-foreign-iff}
 use Rattle.window.specs.Counting.{uOf, qOf, boundOf, cutAt, cutsOf, isWindow}
 use Rattle.window.specs.Walking.{insideFrom, boundBy}
 use Rattle.window.proofs.PlanLaws.{cuts-at, bound-of-fits, bound-held}
@@ -33,6 +37,11 @@ module _ (d : DaySet) (w : List ℕ) where
   pub day-count-foreign : genuineDay d ≡ false → dayCountSpec d w ≡ counted 15 0 0
   unfolding dayCountSpec firstDue unlessDue
   day-count-foreign g = rw g refl
+
+  -- 15 exactly where no accepted calls leave the day set
+  pub day-count-foreign-iff : (dayCountSpec d w .code ≡ 15) ↔ (DayAfterCalls d → ⊥)
+  unfolding dayCountSpec
+  day-count-foreign-iff = day-foreign-iff d _ (other-due 14 _ [] 15 (λ e. omega arith) none-15)
 
   -- where it is answered, the day set is genuine and the window is one
   pub day-count-accepted : dayCountSpec d w .code ≡ 0 → (genuineDay d ≡ true) × (isWindow w (dayWidth d) ≡ true)

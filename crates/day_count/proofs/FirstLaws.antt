@@ -27,14 +27,14 @@ module _ (u q N : ℕ) (pos : 0 < q) where
   unfolding cutLimit
   limit-within h = le-of-suc-le-suc (div-lt-iff-lt-mul {k = q} {x = u * N + (q - 1)} {y = suc N} pos .1 (omega (arith, mul-le-mul-right N h)))
 
-module _ (p : Plan) (w : List Cut) (N : ℕ) where
-  -- how many points the leading cut takes
-  abbrev pub first : ℕ
-  first = cutLimit (uOf w 0) (qOf w 0) N
+-- how many of N points the leading cut takes
+abbrev pub firstOf : List Cut → ℕ → ℕ
+firstOf w N = cutLimit (uOf w 0) (qOf w 0) N
 
-  -- those of them that are inside the other cuts are all that are inside
-  pub day-first : 0 < qOf w 0 → uOf w 0 ≤ qOf w 0 → dayInsideCount p w N ≡ insideCount p (drop 1 w) (dayRun first)
-  unfolding dayInsideCount dayInside insideCount stepInside axisInside runNumerator indexAt
-  day-first pos h =
-      count-first (dayInside p w N) (stepInside p (drop 1 w) (dayRun first)) first N (limit-within (uOf w 0) (qOf w 0) N pos h)
-      (λ n. rw (limit-cut n N (uOf w 0) (qOf w 0) pos) refl)
+-- those of them that are inside the other cuts are all that are inside
+pub day-first : (p : Plan) (w : List Cut) (N : ℕ) → 0 < qOf w 0 → uOf w 0 ≤ qOf w 0
+    → dayInsideCount p w N ≡ insideCount p (drop 1 w) (dayRun (firstOf w N))
+unfolding dayInsideCount dayInside insideCount stepInside axisInside runNumerator indexAt
+day-first p w N pos h =
+    count-first (dayInside p w N) (stepInside p (drop 1 w) (dayRun (firstOf w N))) (firstOf w N) N (limit-within (uOf w 0) (qOf w 0) N pos h)
+    (λ n. rw (limit-cut n N (uOf w 0) (qOf w 0) pos) refl)

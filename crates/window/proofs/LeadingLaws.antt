@@ -15,7 +15,7 @@ use Rattle.window.proofs.RangeLaws.{window-is, window-parts}
 -- ---- a list of cuts
 
 module _ (w : List Cut) where
-  cut-next : (i : ℕ) → getD (drop 1 w) i noCut ≡ getD w (suc i) noCut
+  pub cut-next : (i : ℕ) → getD (drop 1 w) i noCut ≡ getD w (suc i) noCut
   cut-next i = getD-drop 1 w i noCut ∙ ap (λ (j : ℕ). getD w j noCut) (omega arith)
 
   pub u-front : (s : ℕ) → uProduct w (suc s) ≡ uOf w 0 * uProduct (drop 1 w) s

@@ -12,7 +12,7 @@ add-result : tie.Need-add-result
 add-result c = search needs
 
 returns-2 : tie.Need-returns-2
-returns-2 c = rw (ne-eqb (c .before .args .family) 2 (λ e. omega arith))
+returns-2 c = rw (ne-eqb (c .before .args .family) 2 (λ e. omega arith)) (omega arith)
 
 pub day-bound-spec : {M : Type 1} → statement M
 day-bound-spec = tie.close (tie.spec returns add-result returns-2)

@@ -2,7 +2,7 @@
 use mathlib.Core.Path.{_≡_, sym, ap, ap₂, _∙_}
 use mathlib.Core.Bool.{true, false}
 use mathlib.Core.List.{List}
-use Prim.Native.Nat.{ℕ, _-_, _^_, _≤_}
+use Prim.Native.Nat.{ℕ, _-_, _*_, _^_, _≤_}
 use native.Mathlib.Numerals.{add-one}
 use native.Mathlib.Omega.{arith}
 use borrow.Author.Needs.{needs}
@@ -77,15 +77,12 @@ refused-requires-3 c κs = search needs
 returns-3 : tie.Need-returns-3
 returns-3 c = c .refused3 .ensures ∙ sym (day-count-off _ _ (known (c .before .before .before)) (off (c .before)))
 
-shared-slice-read-cut-limit : tie.Need-shared-slice-read-cut-limit
-shared-slice-read-cut-limit c = omega (arith, window-parts _ _ (fits (c .before)) .0)
-
-shared-slice-read-cut-limit-2 : tie.Need-shared-slice-read-cut-limit-2
-shared-slice-read-cut-limit-2 c = omega (arith, window-parts _ _ (fits (c .before .before)) .0)
-
--- the leading cut's range, and the size's
+-- what the window and the day set then are
 abbrev given : tie.Else3 → tie.Start
 given c = start (c .before .before .before)
+
+long : (c : tie.Else3) → let a = given c .args in length (a .w .now) ≡ 2 * dayWidth (a .d)
+long c = window-parts _ _ (fits c) .0
 
 leading : (c : tie.Else3) → let l = cutAt (given c .args .w .now) 0 in (1 ≤ l .q) × (l .q ≤ 2 ^ 24) × (l .u ≤ l .q)
 leading c = range-at _ _ (fits c) 0 (omega arith)
@@ -95,6 +92,12 @@ whole c = day-is _ (known (c .before .before)) .1
 
 small : (c : tie.Else3) → daySize (given c .args .d) ≤ 2 ^ 32
 small c = omega (arith, known-run _ (whole c) .0)
+
+shared-slice-read-cut-limit : tie.Need-shared-slice-read-cut-limit
+shared-slice-read-cut-limit c = omega (arith, long (c .before))
+
+shared-slice-read-cut-limit-2 : tie.Need-shared-slice-read-cut-limit-2
+shared-slice-read-cut-limit-2 c = omega (arith, long (c .before .before))
 
 cut-limit-requires : tie.Need-cut-limit-requires
 cut-limit-requires c κs = omega (arith, leading (c .before .before), small (c .before .before))
@@ -109,10 +112,10 @@ first-small c =
     omega (arith, c .cut-limit .ensures, limit-within _ _ (daySize (given (taken c) .args .d)) (l .0) (l .2), small (taken c))
 
 sub-count-inside : tie.Need-sub-count-inside
-sub-count-inside c = omega (arith, window-parts _ _ (fits (taken (c .before .before .before .before .before))) .0)
+sub-count-inside c = omega (arith, long (taken (c .before .before .before .before .before)))
 
 part-count-inside-start : tie.Need-part-count-inside-start
-part-count-inside-start c = omega (arith, window-parts _ _ (fits (taken (c .before .before .before .before .before))) .0)
+part-count-inside-start c = omega (arith, long (taken (c .before .before .before .before .before)))
 
 part-count-inside-end : tie.Need-part-count-inside-end
 part-count-inside-end c = search needs
