@@ -1,5 +1,6 @@
 // Runs the edges and the traps of 01-scope.md through the calls, one line each: what was asked, and the number that came.
 use libc::STDOUT_FILENO;
+use sampler::DaySet;
 use sampler::Sampler;
 
 // Writes a line: a label and a number.
@@ -157,6 +158,50 @@ fn blank_state() {
     report(b"jump on the blank state", j.code);
 }
 
+// What making a day set answers.
+fn making(label: &[u8], s: Sampler, size: u64) {
+    let r = sampler::make_day_set(s, size);
+    report(label, r.code);
+}
+
+// The largest day set: its last point is 4294967295, and a jump to its size is turned down.
+fn largest_day_set(s: Sampler) {
+    making(b"day set of 4294967297", s, 4294967297);
+    let m = sampler::make_day_set(s, 4294967296);
+    report(b"day set of 4294967296", m.code);
+    let mut point = [0u64; 3];
+    let a = sampler::day_jump(m.set, 4294967295, &mut point);
+    report(b"jump to its point 4294967295", a.code);
+    report(b"the number in it", point[0]);
+    let b = sampler::day_jump(m.set, 4294967296, &mut point);
+    report(b"jump to its point 4294967296", b.code);
+}
+
+// The empty day set: no point, and a count of none, within the bound 1 + 1.
+fn empty_day_set(s: Sampler) {
+    let m = sampler::make_day_set(s, 0);
+    report(b"day set of 0", m.code);
+    let mut point = [0u64; 3];
+    let a = sampler::day_step(m.set, &mut point);
+    report(b"step of it", a.code);
+    let b = sampler::day_jump(m.set, 0, &mut point);
+    report(b"jump to its point 0", b.code);
+    let c = sampler::day_count(m.set, &[1, 1, 1, 1, 1, 1]);
+    report(b"count 1/1 1/1 1/1 over it", c.code);
+    report(b"  inside", c.inside);
+    report(b"  bound", c.bound);
+}
+
+// A sampler whose run starts elsewhere is no day set, and the blank state makes none.
+fn foreign_day_sets(s: Sampler) {
+    let a = sampler::open(s, 1, 6);
+    let mut point = [0u64; 3];
+    let run = a.state;
+    let r = sampler::day_step(DaySet { run }, &mut point);
+    report(b"step of a run from 1 as a day set", r.code);
+    making(b"day set of the blank state", sampler::blank_state(), 6);
+}
+
 fn main() {
     let r = sampler::read(&[16, 8, 16]);
     edges(r.state);
@@ -168,4 +213,7 @@ fn main() {
     wrong_windows(r.state);
     seconds();
     blank_state();
+    largest_day_set(r.state);
+    empty_day_set(r.state);
+    foreign_day_sets(r.state);
 }

@@ -13,7 +13,7 @@ pub enum Printed {
 }
 
 // Whether `x / d` is `top / bottom`, exactly. Parts that are too large to multiply, or a bottom of 0, do not agree.
-fn same_fraction(x: u64, d: u64, top: u64, bottom: u64) -> bool
+pub fn same_fraction(x: u64, d: u64, top: u64, bottom: u64) -> bool
     ensures { λ r. ⌜ (r ≡ true → x * bottom ≡ top * d) ⌝ }
 {
     if 1099511627776 < x {

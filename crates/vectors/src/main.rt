@@ -1,19 +1,25 @@
 // Runs the points that the source documents print through the library, and writes how many of each group agree.
 mod agreement;
+mod hammersley;
 mod tables;
 
 use agreement::Printed;
 use libc::STDOUT_FILENO;
 
 // Writes a group's line: its label, how many of its rows agree, and how many there are.
-fn report(label: &[u8], printed: Printed, axes: [u64; 3], table: &[[u64; 7]]) {
-    let agreed = agreement::count_agreeing(printed, axes, table);
+fn put_line(label: &[u8], agreed: usize, rows: usize) {
     io::write_all(STDOUT_FILENO, label);
     io::write_all(STDOUT_FILENO, b": ");
     io::print_decimal(STDOUT_FILENO, agreed as u64);
     io::write_all(STDOUT_FILENO, b" of ");
-    io::print_decimal(STDOUT_FILENO, table.len() as u64);
+    io::print_decimal(STDOUT_FILENO, rows as u64);
     io::write_all(STDOUT_FILENO, b"\n");
+}
+
+// The line of a table of points.
+fn report(label: &[u8], printed: Printed, axes: [u64; 3], table: &[[u64; 7]]) {
+    let agreed = agreement::count_agreeing(printed, axes, table);
+    put_line(label, agreed, table.len());
 }
 
 // The groups of document 001: Halton points, plain and permuted.
@@ -52,7 +58,7 @@ fn document_001() {
     );
 }
 
-// The groups of document 002: Halton points, and steps that carry.
+// The groups of document 002: Halton points, steps that carry, and a Hammersley set.
 fn document_002() {
     let plain = Printed::Halton { family: 0 };
     report(
@@ -78,6 +84,11 @@ fn document_002() {
         plain,
         [3, 0, 0],
         &tables::CARRY_BASE_THREE,
+    );
+    put_line(
+        b"002 Hammersley set of 10, base 2",
+        hammersley::count_agreeing(),
+        10,
     );
 }
 

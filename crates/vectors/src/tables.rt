@@ -105,6 +105,20 @@ pub const TWO_DIMENSIONS: [[u64; 7]; 10] = [
     [9, 9, 16, 1, 27, 0, 0],
 ];
 
+// Document 002: the Hammersley set of ten elements, its leading axis and base 2.
+pub const HAMMERSLEY: [[u64; 7]; 10] = [
+    [0, 0, 1, 0, 1, 0, 0],
+    [1, 1, 10, 1, 2, 0, 0],
+    [2, 1, 5, 1, 4, 0, 0],
+    [3, 3, 10, 3, 4, 0, 0],
+    [4, 2, 5, 1, 8, 0, 0],
+    [5, 1, 2, 5, 8, 0, 0],
+    [6, 3, 5, 3, 8, 0, 0],
+    [7, 7, 10, 7, 8, 0, 0],
+    [8, 4, 5, 1, 16, 0, 0],
+    [9, 9, 10, 9, 16, 0, 0],
+];
+
 // Document 002: (0.11101101)_2 plus 1/2, carried to the right, is (0.00011101)_2. The digits of the left side are those of 183.
 pub const CARRY_BASE_TWO: [[u64; 7]; 2] = [[183, 237, 256, 0, 0, 0, 0], [184, 29, 256, 0, 0, 0, 0]];
 
