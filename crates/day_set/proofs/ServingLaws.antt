@@ -140,3 +140,22 @@ day-demand-2 bytes {s} h =
             subst (λ (d : DaySet). ServesDay (l .plan) N requests (dayServed requests d) (dayAfter requests d)) (sym (m .1)) (day-serves (l .plan) (l .valid) N (m .0) requests),
       ),
     )
+
+-- The last point of the largest day set has the number 2^32 - 1: a jump gives it and none beyond, and the step that comes when it alone is left
+-- gives it and leaves none.
+pub day-last : (p : Plan) → Valid p → (buf : List ℕ) → widthOf p ≤ length buf → (taken : ℕ) → taken ≤ 2 ^ 32
+    → let d = dayMade p (2 ^ 32) in
+    (dayJumpSpec (d taken) 4294967295 buf .code ≡ 0) × (take (widthOf p) (dayJumpBuf (d taken) 4294967295 buf) ≡ dayPoint p 4294967295)
+    × (dayJumpSpec (d taken) 4294967296 buf .code ≡ 11)
+    × (take (widthOf p) (dayStepBuf (d 4294967295) buf) ≡ dayPoint p 4294967295) × (dayStepSpec (dayStepSpec (d 4294967295) buf .set) buf .code ≡ 12)
+day-last p v buf room taken h =
+    let N : ℕ = 2 ^ 32 in
+    let fits : N ≤ 2 ^ 32 = omega arith in
+    let j = day-jump-at p v N fits taken buf 4294967295 h room (omega arith) in
+    let s = day-step-at p v N fits 4294967295 buf room (omega arith) .0 in (
+      ap (λ (a : _). a .code) (j .0),
+      ap (take (widthOf p)) (j .1) ∙ take-at (dayPoint p 4294967295) (drop (widthOf p) buf) (widthOf p) (day-point-length p 4294967295),
+      ap (λ (a : _). a .code) (day-past p v N fits taken buf 4294967296 h (omega arith) .0),
+      day-step-point p v N fits 4294967295 buf room (omega arith),
+      ap (λ (a : _). dayStepSpec (a .set) buf .code) s ∙ day-step-over p v N fits (4294967295 + 1) buf (omega arith),
+    )
