@@ -1,6 +1,7 @@
 // The calls on a state in loops, for the benchmark: each function reads its plan once and then makes one call so many times.
 use sampler::Sampler;
 ghost use mathlib.Core.Path.{_≡_};
+ghost use Rattle.window_count.specs.Call.{countSpec};
 ghost use Rattle.bench_calls.specs.Rounds.{openedState, blocksOf, jumpsOf, axisJumpsOf, secondsOf, stepsOf, countsOf};
 
 // The state of a plan with a run opened.
@@ -124,7 +125,7 @@ pub extern "C" fn bench_counts(
     window: &[u64],
     rounds: u64,
 ) -> u64
-    ensures { λ r. ⌜ r ≡ countsOf (openedState (now (plan .entry)) start count) (now (window .entry)) rounds ⌝ }
+    ensures { λ r. ⌜ r ≡ countsOf (countSpec (openedState (now (plan .entry)) start count) (now (window .entry))) rounds ⌝ }
 {
     let s = opened(plan, start, count);
     let mut inside = 0;
