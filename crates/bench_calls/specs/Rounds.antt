@@ -11,13 +11,15 @@ use Rattle.points.specs.Run.{runOf}
 use Rattle.state.specs.declared.Sampler.{Sampler}
 use Rattle.calls.specs.Calls.{readSpec, openSpec, jumpSpec, jumpBuf, secondSpec, stepSpec, stepBuf, blockSpec, blockBuf}
 use Rattle.window_count.specs.declared.Counted.{Counted}
+use Rattle.day_set.specs.Calls.{makeSpec, dayBlockSpec, dayBlockBuf}
+use Rattle.day_set.specs.declared.DaySet.{DaySet}
 
 -- n rounds on a first value, each of which has its number, from 0
 unfoldable pub rounds : {A : Type 0} → (ℕ → A → A) → A → ℕ → A
 rounds round a zero = a
 rounds round a (suc n) = round n (rounds round a n)
 
--- after a round: what the call answered, the state and the words
+-- after a round: what the call answered, the state or day set, and the words
 pub record Turn (S : Type 0) : Type 0 where
   pub answer : ℕ
   pub state : S
@@ -30,6 +32,10 @@ turn n s words = record { answer = n; state = s; words = words }
 unfoldable pub openedState : List ℕ → ℕ → ℕ → Sampler
 openedState plan start count = openSpec (readSpec plan .state) (runOf start count) .state
 
+-- the day set of a plan
+unfoldable pub madeSet : List ℕ → ℕ → DaySet
+madeSet plan size = makeSpec (readSpec plan .state) size .set
+
 -- the index of a round
 abbrev pub indexAt : ℕ → ℕ → ℕ
 indexAt first i = bitXor first i % 2 ^ 32
@@ -38,6 +44,9 @@ indexAt first i = bitXor first i % 2 ^ 32
 
 unfoldable pub blockRound : ℕ → Turn Sampler → Turn Sampler
 blockRound _ t = turn (blockSpec (t .state) (t .words) .points) (t .state) (blockBuf (t .state) (t .words))
+
+unfoldable pub dayBlockRound : ℕ → Turn DaySet → Turn DaySet
+dayBlockRound _ t = turn (dayBlockSpec (t .state) (t .words) .points) (t .state) (dayBlockBuf (t .state) (t .words))
 
 unfoldable pub jumpRound : ℕ → ℕ → Turn Sampler → Turn Sampler
 jumpRound first i t =
@@ -56,6 +65,9 @@ secondRound s indexes i x = bitXor x (secondSpec s (getD indexes i 0) .second)
 
 unfoldable pub blocksOf : Sampler → ℕ → List ℕ → Turn Sampler
 blocksOf s n words = rounds blockRound (turn 0 s words) n
+
+unfoldable pub dayBlocksOf : DaySet → ℕ → List ℕ → Turn DaySet
+dayBlocksOf d n words = rounds dayBlockRound (turn 0 d words) n
 
 unfoldable pub jumpsOf : Sampler → ℕ → ℕ → List ℕ → Turn Sampler
 jumpsOf s first n words = rounds (jumpRound first) (turn 0 s words) n
