@@ -1,0 +1,4 @@
+-- Laws of the day set's window count.
+pub mod FirstLaws
+pub mod CaseLaws
+pub mod Demand3
