@@ -157,9 +157,9 @@ uint64_t baseline_count(const plan_t *p, uint64_t start, uint64_t count, const u
     return inside;
 }
 
-void baseline_column(size_t count, uint64_t *out) {
+void baseline_column(size_t count, size_t width, uint64_t *out) {
     for (size_t i = 0; i < count; i++)
-        out[i] = i;
+        out[i * width] = i;
 }
 
 void baseline_prepare(const plan_t *p, jumper_t *j) {

@@ -34,7 +34,7 @@ openedState plan start count = openSpec (readSpec plan .state) (runOf start coun
 
 -- the day set of a plan
 unfoldable pub madeSet : List ℕ → ℕ → DaySet
-madeSet plan size = makeSpec (readSpec plan .state) size .set
+madeSet plan size = makeSpec (openedState plan 0 0) size .set
 
 -- the index of a round
 abbrev pub indexAt : ℕ → ℕ → ℕ

@@ -19,8 +19,8 @@ fn opened(plan: &[u8], start: u64, count: u64) -> Sampler
 fn made(plan: &[u8], size: u64) -> DaySet
     ensures { λ r. ⌜ r ≡ madeSet (now (plan .entry)) size ⌝ }
 {
-    let r = sampler::read(plan);
-    let m = sampler::make_day_set(r.state, size);
+    let s = opened(plan, 0, 0);
+    let m = sampler::make_day_set(s, size);
     m.set
 }
 
