@@ -35,7 +35,7 @@ fn head(l: Lines, out: &mut [u8]) -> Lines {
 
 // How many points of the run, or of the day set, are inside a window, and the bound.
 fn counted(s: Sampler, is_day: bool, w: &[u64]) -> Counted
-    ensures { λ r. ⌜ r .code ≡ 0 → Answered s (now (w .entry)) r ⌝ }
+    ensures { λ r. ⌜ (r .code ≡ 0 → Answered s (now (w .entry)) r) ⌝ }
 {
     if is_day {
         return sampler::day_count(DaySet { run: s }, w);
