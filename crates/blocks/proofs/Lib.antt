@@ -1,3 +1,2 @@
--- Laws of many points in a row.
-pub mod RowLaws
+-- Laws of the tables of all axes.
 mod EntryLaws

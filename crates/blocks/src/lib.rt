@@ -1,10 +1,10 @@
-// Many points of a plan held in arrays, in a row: one axis after the other, each into its column of the buffer.
+// Many points of a plan held in arrays, in a row: one axis after the other, each into its column of the buffer. A row has `lead` words before
+// its point, which stay as they are.
 ghost use mathlib.Core.Path.{_≡_};
-ghost use mathlib.Core.List.{_++_};
 ghost use Prim.Native.Nat.{_+_, _*_, _^_, _<_, _≤_};
-ghost use lib.ListN.{length, drop};
+ghost use lib.ListN.{length};
 ghost use Rattle.columns.specs.Rows.{Column, Columns};
-ghost use Rattle.points.specs.Arrays.{numeratorFrom, pointsAt, AxisAt, Arrays};
+ghost use Rattle.points.specs.Arrays.{numeratorFrom, AxisAt, Arrays};
 ghost use Rattle.blocks.specs.Tables.{Bases, tabledAt, AllReady, AllMade};
 
 // Writes column `j` of the rows `lo` to `hi`, which have `s` words each: the numerators of axis `i`, row 0 being index `n`.
@@ -33,7 +33,7 @@ fn fill_column(
     halton_blocks::halton_column(family, bases[i], n, lo, hi, s, j, out);
 }
 
-// Writes the rows `lo` to `hi`, axis after axis: each is a point, row 0 being that of index `n`.
+// Writes the points of the rows `lo` to `hi`, axis after axis, row 0 being that of index `n`.
 fn fill_rows(
     family: u64,
     axes: usize,
@@ -43,13 +43,15 @@ fn fill_rows(
     lo: usize,
     hi: usize,
     out: &mut [u64],
+    lead: usize,
 )
-    requires { ⌜ Arrays family axes (now bases) (now directions) × (n + hi ≤ 2 ^ 32) × (lo ≤ hi) × (hi * axes ≤ length (now out)) ⌝ }
-    ensures { λ r. ⌜ Columns (numeratorFrom family (now (bases .entry)) (now (directions .entry)) n) lo hi axes axes (now (out .entry)) (now (out .exit)) ⌝ }
+    requires { ⌜ Arrays family axes (now bases) (now directions) × (lead ≤ 1) × (n + hi ≤ 2 ^ 32) × (lo ≤ hi) × (hi * (lead + axes) ≤ length (now out)) ⌝ }
+    ensures { λ r. ⌜ Columns (numeratorFrom family (now (bases .entry)) (now (directions .entry)) n) lo hi (lead + axes) lead axes (now (out .entry)) (now (out .exit)) ⌝ }
 {
+    let s = lead + axes;
     let mut i = 0;
     while i < axes {
-        fill_column(family, bases, directions, i, n, lo, hi, axes, i, out);
+        fill_column(family, bases, directions, i, n, lo, hi, s, lead + i, out);
         i += 1;
     }
 }
@@ -83,7 +85,7 @@ fn make_all_tables(
     sizes
 }
 
-// Writes the rows `lo` to `hi` of a Halton plan, axis after axis, by the tables of all axes.
+// Writes the points of the rows `lo` to `hi` of a Halton plan, axis after axis, by the tables of all axes.
 fn table_rows(
     axes: usize,
     bases: &[u64],
@@ -94,11 +96,13 @@ fn table_rows(
     lo: usize,
     hi: usize,
     out: &mut [u64],
+    lead: usize,
 )
     requires { ⌜ (axes ≤ 6) × (length (now bases) ≡ 6) × (length (now sizes) ≡ 6) × (length (now images) ≡ 1536) × (length (now tables) ≡ 1536) ⌝ }
-    requires { ⌜ AllReady axes (now bases) (now sizes) (now images) (now tables) × (n + hi ≤ 2 ^ 32) × (lo ≤ hi) × (hi * axes ≤ length (now out)) ⌝ }
-    ensures { λ r. ⌜ Columns (tabledAt (now (bases .entry)) (now (images .entry)) n) lo hi axes axes (now (out .entry)) (now (out .exit)) ⌝ }
+    requires { ⌜ AllReady axes (now bases) (now sizes) (now images) (now tables) × (lead ≤ 1) × (n + hi ≤ 2 ^ 32) × (lo ≤ hi) × (hi * (lead + axes) ≤ length (now out)) ⌝ }
+    ensures { λ r. ⌜ Columns (tabledAt (now (bases .entry)) (now (images .entry)) n) lo hi (lead + axes) lead axes (now (out .entry)) (now (out .exit)) ⌝ }
 {
+    let s = lead + axes;
     let mut i = 0;
     while i < axes {
         let first = 256 * i;
@@ -111,17 +115,18 @@ fn table_rows(
             n,
             lo,
             hi,
-            axes,
-            i,
+            s,
+            lead + i,
             out,
         );
         i += 1;
     }
 }
 
-// Writes the `k` points of the indexes from `n` on to the front of `out`, so many rows at a time that they stay near while the axes pass.
+// Writes the `k` points of the indexes from `n` on to the first rows of `out`, so many rows at a time that they stay near while the axes pass.
 fn fill_plainly(
     out: &mut [u64],
+    lead: usize,
     family: u64,
     axes: usize,
     bases: &[u64],
@@ -129,20 +134,21 @@ fn fill_plainly(
     n: u64,
     k: usize,
 )
-    requires { ⌜ Arrays family axes (now bases) (now directions) × (1 ≤ axes) × (n + k ≤ 2 ^ 32) × (k * axes ≤ length (now out)) ⌝ }
-    ensures { λ r. ⌜ now (out .exit) ≡ pointsAt family axes (now (bases .entry)) (now (directions .entry)) n k ++ drop (k * axes) (now (out .entry)) ⌝ }
+    requires { ⌜ Arrays family axes (now bases) (now directions) × (lead ≤ 1) × (n + k ≤ 2 ^ 32) × (k * (lead + axes) ≤ length (now out)) ⌝ }
+    ensures { λ r. ⌜ Columns (numeratorFrom family (now (bases .entry)) (now (directions .entry)) n) 0 k (lead + axes) lead axes (now (out .entry)) (now (out .exit)) ⌝ }
 {
     let mut i = 0;
     while i < k {
         let end = columns::least(i + 512, k);
-        fill_rows(family, axes, bases, directions, n, i, end, out);
+        fill_rows(family, axes, bases, directions, n, i, end, out, lead);
         i = end;
     }
 }
 
-// Writes the `k` points of a Halton plan from index `n` on to the front of `out`, by tables of all axes that are made once.
+// Writes the `k` points of a Halton plan from index `n` on to the first rows of `out`, by tables of all axes that are made once.
 fn fill_by_tables(
     out: &mut [u64],
+    lead: usize,
     family: u64,
     axes: usize,
     bases: &[u64],
@@ -150,8 +156,8 @@ fn fill_by_tables(
     n: u64,
     k: usize,
 )
-    requires { ⌜ Arrays family axes (now bases) (now directions) × (1 ≤ axes) × (n + k ≤ 2 ^ 32) × (k * axes ≤ length (now out)) × (family ≡ 2 → ⊥) ⌝ }
-    ensures { λ r. ⌜ now (out .exit) ≡ pointsAt family axes (now (bases .entry)) (now (directions .entry)) n k ++ drop (k * axes) (now (out .entry)) ⌝ }
+    requires { ⌜ Arrays family axes (now bases) (now directions) × (lead ≤ 1) × (n + k ≤ 2 ^ 32) × (k * (lead + axes) ≤ length (now out)) × (family ≡ 2 → ⊥) ⌝ }
+    ensures { λ r. ⌜ Columns (numeratorFrom family (now (bases .entry)) (now (directions .entry)) n) 0 k (lead + axes) lead axes (now (out .entry)) (now (out .exit)) ⌝ }
 {
     let mut images = [0u8; 1536];
     let mut tables = [0u64; 1536];
@@ -159,15 +165,27 @@ fn fill_by_tables(
     let mut row = 0;
     while row < k {
         let end = columns::least(row + 512, k);
-        table_rows(axes, bases, &images, &tables, &sizes, n, row, end, out);
+        table_rows(
+            axes,
+            bases,
+            &images,
+            &tables,
+            &sizes,
+            n,
+            row,
+            end,
+            out,
+            lead,
+        );
         row = end;
     }
 }
 
-// Writes the `k` points of the indexes from `n` on to the front of `out`. For many points of a Halton plan tables of all axes are worth their
-// room.
+// Writes the `k` points of the indexes from `n` on to the first rows of `out`. For many points of a Halton plan tables of all axes are worth
+// their room.
 pub fn fill<'a>(
     out: &mut [u64],
+    lead: usize,
     family: u64,
     axes: usize,
     bases: &'a [u64],
@@ -175,14 +193,14 @@ pub fn fill<'a>(
     n: u64,
     k: usize,
 )
-    requires { ⌜ Arrays family axes (now bases) (now directions) × (1 ≤ axes) × (n + k ≤ 2 ^ 32) × (k * axes ≤ length (now out)) ⌝ }
-    ensures { λ r. ⌜ now (out .exit) ≡ pointsAt family axes (now (bases .entry)) (now (directions .entry)) n k ++ drop (k * axes) (now (out .entry)) ⌝ }
+    requires { ⌜ Arrays family axes (now bases) (now directions) × (lead ≤ 1) × (n + k ≤ 2 ^ 32) × (k * (lead + axes) ≤ length (now out)) ⌝ }
+    ensures { λ r. ⌜ Columns (numeratorFrom family (now (bases .entry)) (now (directions .entry)) n) 0 k (lead + axes) lead axes (now (out .entry)) (now (out .exit)) ⌝ }
 {
     if family != 2 {
         if 1024 <= k {
-            fill_by_tables(out, family, axes, bases, directions, n, k);
+            fill_by_tables(out, lead, family, axes, bases, directions, n, k);
             return;
         }
     }
-    fill_plainly(out, family, axes, bases, directions, n, k);
+    fill_plainly(out, lead, family, axes, bases, directions, n, k);
 }

@@ -3,6 +3,7 @@ use mathlib.Core.Path.{_≡_, refl, sym, ap, _∙_}
 use mathlib.Core.Bool.{Bool, true, false, not}
 use mathlib.Core.List.{List, [], _++_}
 use Prim.Native.Nat.{ℕ, suc, _+_, _*_, _^_, _≤_, _<_}
+use lib.Dec.{ltb}
 use lib.ListN.{length, drop}
 use borrow.Author.Tests.{lt-ltb, le-ltb, le-leb, lt-leb, leb-false, ltb-false, not-true, not-false}
 use Rattle.bits.specs.Stream.{AllBelow}
@@ -11,7 +12,7 @@ use Rattle.plan.specs.Reading.{Reading, refused, accepted, readPlan}
 use Rattle.plan.specs.Answer.{answerOf, planAnswered, Accepted}
 use Rattle.plan.specs.declared.PlanRead.{PlanRead}
 use Rattle.plan.proofs.AnswerLaws.{read-accepted}
-use Rattle.plan.specs.Order.{firstDue, unlessDue}
+use Rattle.plan.specs.Order.{Condition, firstDue, unlessDue}
 use Rattle.plan.proofs.OrderLaws.{none-due}
 use Rattle.points.specs.Point.{pointOf, slotOf}
 use Rattle.points.specs.Run.{Run, runOf, inRange, runPoint, runPoints}
@@ -19,7 +20,7 @@ use Rattle.writer.specs.Parts.{noRoom, Written}
 use Rattle.writer.specs.declared.PlanWritten.{PlanWritten}
 use Rattle.state.specs.State.{made, blank, planIn, runIn, genuine}
 use Rattle.state.specs.declared.Sampler.{Sampler}
-use Rattle.calls.specs.Calls.{moved, blocked, foreign, spent, noPointRoom, readState, readSpec, writeSpec, writeBuf, openSpec, jumpSpec, jumpBuf, runRefusals, stepSpec, stepBuf, blockSize, blockSpec, blockBuf, secondSpec}
+use Rattle.calls.specs.Calls.{moved, blocked, spent, runOrder, readState, readSpec, writeSpec, writeBuf, openSpec, jumpSpec, jumpBuf, runRefusals, stepSpec, stepBuf, blockSize, blockSpec, blockBuf, rowsRefusals, rowsSize, rowsSpec, secondSpec}
 
 -- ---- the test that every call makes first, negated in the code
 
@@ -124,36 +125,41 @@ module _ (s : Sampler) (n : ℕ) (buf : List ℕ) where
 
 -- ---- step and block
 
-module _ (s : Sampler) (buf : List ℕ) where
-  -- their order
-  pub run-foreign : genuine s ≡ false → firstDue (runRefusals s buf) ≡ 15
+-- their order, by what the test of the state answers and the words of a row
+abbrev pub orderBy : Bool → Sampler → List ℕ → ℕ → List Condition
+orderBy known s buf width = runOrder (not known) (spent s) (ltb (length buf) width)
+
+module _ {known : Bool} (s : Sampler) (buf : List ℕ) (width : ℕ) where
+  pub run-foreign : known ≡ false → firstDue (orderBy known s buf width) ≡ 15
   unfolding firstDue
   run-foreign g = rw g refl
 
-  module _ (g : genuine s ≡ true) where
-    pub run-spent : s .count ≤ s .taken → firstDue (runRefusals s buf) ≡ 12
+  module _ (g : known ≡ true) where
+    pub run-spent : s .count ≤ s .taken → firstDue (orderBy known s buf width) ≡ 12
     unfolding firstDue
     run-spent h = rw (g, le-leb (s .count) (s .taken) h) refl
 
     module _ (h : s .taken < s .count) where
-      pub run-no-room : length buf < s .axes → firstDue (runRefusals s buf) ≡ 13
+      pub run-no-room : length buf < width → firstDue (orderBy known s buf width) ≡ 13
       unfolding firstDue
-      run-no-room r = rw (g, lt-leb (s .count) (s .taken) h, lt-ltb (length buf) (s .axes) r) refl
+      run-no-room r = rw (g, lt-leb (s .count) (s .taken) h, lt-ltb (length buf) width r) refl
 
-      pub run-clear : s .axes ≤ length buf → firstDue (runRefusals s buf) ≡ 0
+      pub run-clear : width ≤ length buf → firstDue (orderBy known s buf width) ≡ 0
       unfolding firstDue
-      run-clear r = rw (g, lt-leb (s .count) (s .taken) h, le-ltb (length buf) (s .axes) r) refl
+      run-clear r = rw (g, lt-leb (s .count) (s .taken) h, le-ltb (length buf) width r) refl
 
-  -- where none is due, each test passes
-  pub run-cleared : firstDue (runRefusals s buf) ≡ 0 → (genuine s ≡ true) × (s .taken < s .count) × (s .axes ≤ length buf)
-  run-cleared e =
-      let a = none-due 14 (foreign s) _ e in
-      let b = none-due 11 (spent s) _ (a .1) in (
-        not-false (genuine s) (a .0),
-        leb-false (s .count) (s .taken) (b .0),
-        ltb-false (length buf) (s .axes) (none-due 12 (noPointRoom s buf) [] (b .1) .0),
-      )
+-- where none is due, each test passes
+pub run-cleared : (known : Bool) (s : Sampler) (buf : List ℕ) (width : ℕ) → firstDue (orderBy known s buf width) ≡ 0
+    → (known ≡ true) × (s .taken < s .count) × (width ≤ length buf)
+run-cleared known s buf width e =
+    let a = none-due 14 (not known) _ e in
+    let b = none-due 11 (spent s) _ (a .1) in (
+      not-false known (a .0),
+      leb-false (s .count) (s .taken) (b .0),
+      ltb-false (length buf) width (none-due 12 (ltb (length buf) width) [] (b .1) .0),
+    )
 
+module _ (s : Sampler) (buf : List ℕ) where
   module _ (n : ℕ) (e : firstDue (runRefusals s buf) ≡ suc n) where
     pub step-refused : (stepSpec s buf ≡ moved (suc n) s) × (stepBuf s buf ≡ buf)
     unfolding stepSpec stepBuf unlessDue
@@ -173,6 +179,18 @@ module _ (s : Sampler) (buf : List ℕ) where
         × (blockBuf s buf ≡ runPoints (planIn s) (runIn s) (s .taken) (blockSize s buf) ++ drop (blockSize s buf * s .axes) buf)
     unfolding blockSpec blockBuf unlessDue
     block-done = (rw e refl, rw e refl)
+
+-- ---- rows
+
+module _ (lead : ℕ) (s : Sampler) (buf : List ℕ) where
+  pub rows-refused : (n : ℕ) → firstDue (rowsRefusals lead s buf) ≡ suc n → rowsSpec lead s buf ≡ blocked (suc n) 0 s
+  unfolding rowsSpec unlessDue
+  rows-refused n e = rw e refl
+
+  pub rows-done : firstDue (rowsRefusals lead s buf) ≡ 0
+      → rowsSpec lead s buf ≡ blocked 0 (rowsSize lead s buf) (made (planIn s) (runIn s) (s .taken + rowsSize lead s buf))
+  unfolding rowsSpec unlessDue
+  rows-done e = rw e refl
 
 -- ---- second
 

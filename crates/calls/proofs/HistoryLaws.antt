@@ -88,11 +88,11 @@ after-leaves (opened {s} h r z) =
     of-made (l .plan) (l .valid) (l .spelled) r 0 (record { in-range = o .0; not-past = omega arith }) (o .1)
 after-leaves (stepped {s} h buf z) =
     let l = after-leaves h in
-    let left = run-cleared s buf z .1 in
+    let left = run-cleared (genuine s) s buf (s .axes) z .1 in
     next l (runIn s) (s .taken + 1) (record { in-range = l .run .in-range; not-past = omega arith }) (ap (λ (a : _). a .state) (step-done s buf z .0))
 after-leaves (filled {s} h buf z) =
     let l = after-leaves h in
-    let left = run-cleared s buf z .1 in
+    let left = run-cleared (genuine s) s buf (s .axes) z .1 in
     let few = min-le-left (s .count - s .taken) (length buf / s .axes) in
     next l (runIn s) (s .taken + blockSize s buf) (record { in-range = l .run .in-range; not-past = omega arith }) (ap (λ (a : _). a .state) (block-done s buf z .0))
 
@@ -140,19 +140,24 @@ last-run (filled {s} h buf z) = ap (λ (a : _). runIn (a .state)) (block-done s 
 
 -- ---- number 15
 
--- an order that begins with it gives it exactly where no accepted calls leave the state
-pub foreign-iff : (s : Sampler) (order : List Condition) → (firstDue order ≡ 15 → ⊥)
-    → (firstDue (15 when foreign s ∷ order) ≡ 15) ↔ (AfterCalls s → ⊥)
-foreign-iff s order f = (
-  λ e h. true≢false (sym (after-iff s .0 h) ∙ not-true (genuine s) (first-iff 15 (foreign s) order f .0 e)),
-  λ none. first-iff 15 (foreign s) order f .1 (go (genuine s) refl none),
+-- an order that begins with a test's refusal gives it exactly where what the test decides does not hold
+pub test-iff : {P : Type 0} (test : Bool) → P ↔ (test ≡ true) → (order : List Condition) → (firstDue order ≡ 15 → ⊥)
+    → (firstDue (15 when not test ∷ order) ≡ 15) ↔ (P → ⊥)
+test-iff {P} test decides order f = (
+  λ e h. true≢false (sym (decides .0 h) ∙ not-true test (first-iff 15 (not test) order f .0 e)),
+  λ none. first-iff 15 (not test) order f .1 (go test refl none),
 )
   where
-    go : (b : Bool) → genuine s ≡ b → (AfterCalls s → ⊥) → not (genuine s) ≡ true
-    go true e none = absurd (none (after-iff s .1 e))
+    go : (b : Bool) → test ≡ b → (P → ⊥) → not test ≡ true
+    go true e none = absurd (none (decides .1 e))
     go false e none = rw e refl
 
-none-15 : firstDue [] ≡ 15 → ⊥
+-- so no accepted calls leave the state
+pub foreign-iff : (s : Sampler) (order : List Condition) → (firstDue order ≡ 15 → ⊥)
+    → (firstDue (15 when foreign s ∷ order) ≡ 15) ↔ (AfterCalls s → ⊥)
+foreign-iff s = test-iff (genuine s) (after-iff s)
+
+pub none-15 : firstDue [] ≡ 15 → ⊥
 none-15 = none-given 15 (λ e. omega arith)
 
 module _ (s : Sampler) where

@@ -1,7 +1,9 @@
 -- Laws of the calls: one for each answer, what is written, and what calls in a row come to.
 pub mod CaseLaws
 pub mod PointLaws
+pub mod RowLaws
 pub mod RunLaws
 pub mod HistoryLaws
+pub mod ServerLaws
 pub mod ServingLaws
 pub mod RoundTrip

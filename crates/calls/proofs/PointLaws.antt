@@ -2,8 +2,7 @@
 use mathlib.Core.Path.{_≡_, refl, sym, ap, _∙_}
 use mathlib.Core.Bool.{true, cond}
 use mathlib.Core.List.{List, _++_}
-use Prim.Native.Nat.{ℕ, _+_, _*_, _/_, _^_, _≤_, _<_, min}
-use native.Mathlib.Nat.{le-trans, mul-le-mul-right, div-mul-le-self, min-le-left, min-le-right}
+use Prim.Native.Nat.{ℕ, _+_, _^_, _≤_, _<_}
 use native.Mathlib.Omega.{arith}
 use lib.Dec.{ltb}
 use lib.ListN.{length, take, drop, replicate}
@@ -12,15 +11,15 @@ use Rattle.bits.specs.Stream.{overwrite}
 use Rattle.bits.proofs.OverwriteLaws.{over-start}
 use Rattle.plan.specs.Plan.{Plan, Valid}
 use Rattle.points.specs.Point.{axisCount, numeratorOf, denominatorOf, pointOf}
-use Rattle.points.specs.Run.{Run, runPoint, runPoints}
+use Rattle.points.specs.Run.{Run, runPoint}
 use Rattle.points.proofs.RunLaws.{run-point}
-use Rattle.points.specs.Arrays.{numeratorAt, denominatorAt, pointAt, pointsAt, Arrays}
+use Rattle.points.specs.Arrays.{numeratorAt, denominatorAt, pointAt, Arrays}
 use Rattle.points.proofs.PointLaws.{axis-count, denominator-of-lt, numerator-of-lt, point-of-length}
 use Rattle.points.proofs.ArrayLaws.{numerator-at-plan, denominator-at-plan}
 use Rattle.state.specs.State.{nextPoint, planIn, runIn, genuine}
 use Rattle.state.specs.declared.Sampler.{Sampler}
 use Rattle.state.proofs.GenuineLaws.{Genuine, genuine-is, genuine-range}
-use Rattle.state.proofs.StateLaws.{Holds, genuine-holds, genuine-arrays, genuine-point, genuine-steps, genuine-current, genuine-next-of}
+use Rattle.state.proofs.StateLaws.{Holds, genuine-holds, genuine-arrays, genuine-point, genuine-current, genuine-next-of}
 
 module _ {p : Plan} {family axes : ℕ} {bases vs : List ℕ} (h : Holds p family axes bases vs) (v : Valid p) where
   holds-numerator : (n i : ℕ) → i < axes → numeratorAt family bases vs n i ≡ numeratorOf p n i
@@ -34,7 +33,7 @@ module _ (s : Sampler) (g : genuine s ≡ true) where
   is : Genuine s
   is = genuine-is s g
 
-  axes-are : s .axes ≡ axisCount (planIn s)
+  pub axes-are : s .axes ≡ axisCount (planIn s)
   axes-are = genuine-holds is .axes-is
 
   pub axes-few : (1 ≤ s .axes) × (s .axes ≤ 6)
@@ -58,11 +57,6 @@ module _ (s : Sampler) (g : genuine s ≡ true) where
   -- and how long it is
   pub front-long : (x : List ℕ) (n : ℕ) → x ≡ pointAt (s .family) (s .axes) (s .bases) (s .directions) n → length (take (s .axes) x) ≡ s .axes
   front-long x n e = ap (λ (l : List ℕ). length (take (s .axes) l)) e ∙ ap length (point-front n) ∙ point-of-length (planIn s) n ∙ sym axes-are
-
-  -- points put one after another, from step t on
-  pub points-put : (buf new : List ℕ) (t k : ℕ) → new ≡ pointsAt (s .family) (s .axes) (s .bases) (s .directions) (s .start + t) k ++ drop (k * s .axes) buf
-      → new ≡ runPoints (planIn s) (runIn s) t k ++ drop (k * s .axes) buf
-  points-put buf new t k put = put ∙ rw (genuine-steps is t k) refl
 
   pub known-arrays : Arrays (s .family) (s .axes) (s .bases) (s .directions)
   known-arrays = genuine-arrays is
@@ -92,11 +86,3 @@ module _ (s : Sampler) (g : genuine s ≡ true) where
     fraction-small =
         let l : i < axisCount (planIn s) = omega (arith, axes-are) in
         (numerator-of-lt (planIn s) (is .valid) n i l, denominator-of-lt (planIn s) (is .valid) i l)
-
--- ---- the size of a block
-
-pub block-fits : (left room axes k : ℕ) → k ≡ min left (room / axes) → (k ≤ left) × (k * axes ≤ room)
-block-fits left room axes k e = (
-  omega (arith, e, min-le-left left (room / axes)),
-  le-trans (mul-le-mul-right axes (omega (arith, e, min-le-right left (room / axes)))) (div-mul-le-self room axes),
-)

@@ -8,6 +8,7 @@ use native.Mathlib.Nat.{min-le-left}
 use native.Mathlib.Omega.{arith}
 use lib.ListN.{length, take, drop}
 use lib.Seq.{take-at}
+use Rattle.numbers.specs.Listed.{joined}
 use Rattle.plan.specs.Plan.{Plan, Valid}
 use Rattle.plan.specs.Order.{firstDue}
 use Rattle.points.specs.Point.{axisCount, numeratorOf, denominatorOf, pointOf, slotOf}
@@ -30,7 +31,7 @@ module _ (p : Plan) (v : Valid p) (r : Run) (fits : inRange r ≡ true) where
     module _ (h : taken < r .count) where
       pub clear : firstDue (runRefusals (made p r taken) buf) ≡ 0
       unfolding made
-      clear = run-clear (made p r taken) buf (is-genuine taken (omega arith)) h room
+      clear = run-clear (made p r taken) buf (axisCount p) (is-genuine taken (omega arith)) h room
 
       pub step-at : (stepSpec (made p r taken) buf ≡ moved 0 (made p r (taken + 1)))
           × (stepBuf (made p r taken) buf ≡ runPoint p r taken ++ drop (axisCount p) buf)
@@ -50,7 +51,7 @@ module _ (p : Plan) (v : Valid p) (r : Run) (fits : inRange r ≡ true) where
     module _ (e : taken ≡ r .count) where
       over : firstDue (runRefusals (made p r taken) buf) ≡ 12
       unfolding made
-      over = run-spent (made p r taken) buf (is-genuine taken (omega arith)) (omega arith)
+      over = run-spent (made p r taken) buf (axisCount p) (is-genuine taken (omega arith)) (omega arith)
 
       pub step-over : stepSpec (made p r taken) buf ≡ moved 12 (made p r taken)
       step-over = step-refused (made p r taken) buf 11 over .0
@@ -94,7 +95,7 @@ module _ (p : Plan) (v : Valid p) (r : Run) (fits : inRange r ≡ true) where
 
     -- k steps give the points of k steps of the run
     pub steps-serve : (k : ℕ) → taken + k ≤ r .count → stepsPoints k (made p r taken) bufs ≡ runPoints p r taken k
-    unfolding stepsPoints runPoints made
+    unfolding stepsPoints joined made
     steps-serve zero h = refl
     steps-serve (suc k) h =
         ap₂ _++_ (steps-serve k (omega arith))

@@ -49,14 +49,29 @@ unfoldable pub writtenBy : Request → Sampler → List ℕ
 writtenBy (step buf) s = unlessNumber (stepSpec s buf .code) (take (s .axes) (stepBuf s buf)) []
 writtenBy (block buf) s = take (blockSpec s buf .points * s .axes) (blockBuf s buf)
 
--- requests one after another: the state that they leave, and the points that they write
-unfoldable pub stateAfter : List Request → Sampler → Sampler
-stateAfter [] s = s
-stateAfter (q ∷ requests) s = stateAfter requests (movedBy q s)
+-- what a kind of state does on a request: the state that is left, and the points that are written
+pub record Server (S : Type 0) : Type 0 where
+  pub moved : Request → S → S
+  pub written : Request → S → List ℕ
 
-unfoldable pub pointsServed : List Request → Sampler → List ℕ
-pointsServed [] s = []
-pointsServed (q ∷ requests) s = writtenBy q s ++ pointsServed requests (movedBy q s)
+-- requests one after another
+unfoldable pub allMoved : {S : Type 0} → Server S → List Request → S → S
+allMoved v [] s = s
+allMoved v (q ∷ requests) s = allMoved v requests (v .moved q s)
+
+unfoldable pub allWritten : {S : Type 0} → Server S → List Request → S → List ℕ
+allWritten v [] s = []
+allWritten v (q ∷ requests) s = v .written q s ++ allWritten v requests (v .moved q s)
+
+-- of a run: the state that they leave, and the points that they write
+abbrev pub runServer : Server Sampler
+runServer = record { moved = movedBy; written = writtenBy }
+
+abbrev pub stateAfter : List Request → Sampler → Sampler
+stateAfter = allMoved runServer
+
+abbrev pub pointsServed : List Request → Sampler → List ℕ
+pointsServed = allWritten runServer
 
 -- each is lent room for a point of so many axes
 unfoldable pub AllRoom : ℕ → List Request → Type 0

@@ -9,7 +9,7 @@ use borrow.Author.Tests.{eq-eqb, ne-eqb}
 use lib.Dec.{T, eqb, eqb→eq, eqb-refl, T-not}
 use Rattle.plan.specs.Order.{firstDue}
 use Rattle.numbers.proofs.Cases.{eq-or-ne}
-use Rattle.state.specs.State.{made}
+use Rattle.state.specs.State.{made, genuine}
 use Rattle.state.specs.declared.Sampler.{Sampler}
 use Rattle.calls.specs.Calls.{runRefusals, stepSpec, stepBuf}
 use Rattle.calls.proofs.CaseLaws.{run-cleared, step-done}
@@ -23,7 +23,7 @@ module _ (s : Sampler) (words : List ℕ) where
   one-fewer : stepSpec s words .code ≡ 0 → suc (left (stepSpec s words .state)) ≡ left s
   unfolding made
   one-fewer z =
-      let more = run-cleared s words (clear z) .1 in
+      let more = run-cleared (genuine s) s words (s .axes) (clear z) .1 in
       rw (step-done s words (clear z) .0) (omega arith)
 
   stops-at : (k : ℕ) → (stepSpec s words .code ≡ 0 → ⊥) → stepped s words ≡ servedWithin k s words

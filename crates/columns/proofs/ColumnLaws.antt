@@ -1,9 +1,10 @@
 -- A buffer of rows filled column by column: one store more, parts joined, columns joined, and all columns as a list. Assumes nothing.
 use mathlib.Core.Path.{_≡_, refl, sym, ap, _∙_, subst}
-use mathlib.Core.Logic.{_⊎_, inl, inr, ⊎-elim}
-use mathlib.Core.List.{List, _++_}
+use mathlib.Core.Logic.{⊎-elim}
+use mathlib.Core.List.{List, [], _∷_, _++_}
 use Prim.Native.Nat.{ℕ, zero, suc, _+_, _-_, _*_, _/_, _%_, _<_, _≤_}
-use native.Mathlib.Nat.{zero-mul, suc-mul, add-mul, mul-le-mul-right, mod-lt, div-add-mod', div-lt-iff-lt-mul}
+use native.Mathlib.Nat.{add-zero, zero-mul, suc-mul, add-mul, mul-le-mul-right, mod-lt, div-add-mod', div-lt-iff-lt-mul}
+use native.Mathlib.Numerals.{add-one}
 use native.Mathlib.Omega.{arith}
 use lib.Arith.{digits-mod}
 use lib.ListN.{length, getD, set, drop, length-set, length-append, length-drop, List·getD-append}
@@ -11,7 +12,7 @@ use lib.Seq.{getD-set-same, getD-set-other, getD-append-add, getD-drop, ext-getD
 use Rattle.numbers.specs.Listed.{listed}
 use Rattle.numbers.proofs.Cases.{lt-or-ge}
 use Rattle.numbers.proofs.ListedLaws.{listed-length, listed-at}
-use Rattle.columns.specs.Rows.{Column, Columns, rows}
+use Rattle.columns.specs.Rows.{Column, Columns, inFront, rows}
 
 -- ---- places
 
@@ -62,44 +63,64 @@ module _ {g : ℕ → ℕ} {lo i s j : ℕ} {old new : List ℕ} (c : Column g l
 
 -- ---- several columns
 
-pub columns-none : (g : ℕ → ℕ → ℕ) (lo hi s : ℕ) (l : List ℕ) → Columns g lo hi s 0 l l
-columns-none g lo hi s l = record { same-length = refl; wrote = λ i a h k n. absurd (omega arith); kept = λ p f. refl }
+module _ (g : ℕ → ℕ → ℕ) where
+  -- no columns yet
+  pub columns-none : (lo hi s c : ℕ) (l : List ℕ) → Columns g lo hi s c 0 l l
+  columns-none lo hi s c l = record { same-length = refl; wrote = λ i a h k n. absurd (omega arith); kept = λ p f. refl }
 
--- no points
-pub columns-empty : (g : ℕ → ℕ → ℕ) (s : ℕ) (l : List ℕ) → Columns g 0 0 s s l l
-columns-empty g s l = record { same-length = refl; wrote = λ i a h k n. absurd (omega arith); kept = λ p f. refl }
+  -- no rows
+  pub columns-empty : (lo s c j : ℕ) (l : List ℕ) → Columns g lo lo s c j l l
+  columns-empty lo s c j l = record { same-length = refl; wrote = λ i a h k n. absurd (omega arith); kept = λ p f. refl }
 
-pub columns-to : {g : ℕ → ℕ → ℕ} {lo hi s j k : ℕ} {old new : List ℕ} → Columns g lo hi s j old new → j ≡ k → Columns g lo hi s k old new
-columns-to {g} {lo} {hi} {s} {j} {k} {old} {new} c e = subst (λ (i : ℕ). Columns g lo hi s i old new) e c
+module _ {g : ℕ → ℕ → ℕ} {lo hi s c j : ℕ} {old new : List ℕ} (w : Columns g lo hi s c j old new) where
+  pub columns-to : {k : ℕ} → j ≡ k → Columns g lo hi s c k old new
+  columns-to e = subst (λ (i : ℕ). Columns g lo hi s c i old new) e w
 
-pub columns-rows : {g : ℕ → ℕ → ℕ} {lo hi s j k : ℕ} {old new : List ℕ} → Columns g lo hi s j old new → hi ≡ k → Columns g lo k s j old new
-columns-rows {g} {lo} {hi} {s} {j} {k} {old} {new} c e = subst (λ (i : ℕ). Columns g lo i s j old new) e c
+  pub columns-rows : {k : ℕ} → hi ≡ k → Columns g lo k s c j old new
+  columns-rows e = subst (λ (i : ℕ). Columns g lo i s c j old new) e w
 
-pub columns-as : {g : ℕ → ℕ → ℕ} {lo hi s j : ℕ} {old new : List ℕ} → Columns g lo hi s j old new → (h : ℕ → ℕ → ℕ)
-    → ((a : ℕ) → a < j → (i : ℕ) → g a i ≡ h a i) → Columns h lo hi s j old new
-columns-as c h e = record { same-length = c .same-length; wrote = λ i a l k n. c .wrote i a l k n ∙ e a n i; kept = c .kept }
+  pub columns-as : (h : ℕ → ℕ → ℕ) → ((a : ℕ) → a < j → (i : ℕ) → g a i ≡ h a i) → Columns h lo hi s c j old new
+  columns-as h e = record { same-length = w .same-length; wrote = λ i a l k n. w .wrote i a l k n ∙ e a n i; kept = w .kept }
 
-module _ {g : ℕ → ℕ → ℕ} {lo hi s : ℕ} {old new last : List ℕ} where
-  pub columns-more : {j : ℕ} → Columns g lo hi s j old new → Column (g j) lo hi s j new last → j < s → Columns g lo hi s (j + 1) old last
-  columns-more {j} c d l = record {
-    same-length = d .same-length ∙ c .same-length;
-    wrote = λ i a h k n. ⊎-elim (λ q. d .kept (i * s + a) (λ i′ h′ k′ e. apart-columns i i′ s a j (omega arith) l (λ w. omega arith) e) ∙ c .wrote i a h k q) (λ q. here i a h k (omega arith)) (lt-or-ge a j);
-    kept = λ p f. d .kept p (λ i h k e. outside p f i h k e) ∙ c .kept p f;
+  -- no rows, and the buffer is as it was
+  pub columns-unchanged : hi ≤ lo → new ≡ old
+  columns-unchanged h = ext-getD 0 new old (w .same-length) (λ p l. w .kept p (λ i a m k n e. omega arith))
+
+  -- one column more, behind these
+  pub columns-more : {last : List ℕ} → Column (g j) lo hi s (c + j) new last → c + j < s → Columns g lo hi s c (j + 1) old last
+  columns-more {last} d l = record {
+    same-length = d .same-length ∙ w .same-length;
+    wrote = λ i a h k n. ⊎-elim (λ q. d .kept (i * s + (c + a)) (λ i′ h′ k′ e. apart-columns i i′ s (c + a) (c + j) (omega arith) l (λ x. omega arith) e) ∙ w .wrote i a h k q) (λ q. here i a h k (omega arith)) (lt-or-ge a j);
+    kept = λ p f. d .kept p (λ i h k e. f i j h k (omega arith) e) ∙ w .kept p (λ i a h k n e. f i a h k (omega arith) e);
   }
     where
-      here : (i a : ℕ) → lo ≤ i → i < hi → a ≡ j → getD last (i * s + a) 0 ≡ g a i
+      here : (i a : ℕ) → lo ≤ i → i < hi → a ≡ j → getD last (i * s + (c + a)) 0 ≡ g a i
       here i a h k q = rw q (d .wrote i h k)
 
-      outside : (p : ℕ) → (p < lo * s) ⊎ (hi * s ≤ p) → (i : ℕ) → lo ≤ i → i < hi → p ≡ i * s + j → ⊥
-      outside p (inl q) i h k e = omega (arith, mul-le-mul-right {m = lo} {n = i} s h)
-      outside p (inr q) i h k e = omega (arith, row-end i hi s j k l)
-
-  pub columns-join : {mid : ℕ} → Columns g lo mid s s old new → Columns g mid hi s s new last → lo ≤ mid → mid ≤ hi → Columns g lo hi s s old last
-  columns-join {mid} c d h m = record {
-    same-length = d .same-length ∙ c .same-length;
-    wrote = λ i a l k n. ⊎-elim (λ q. d .kept (i * s + a) (inl (row-end i mid s a q n)) ∙ c .wrote i a l q n) (λ q. d .wrote i a q k n) (lt-or-ge i mid);
-    kept = λ p f. d .kept p (⊎-elim (λ q. inl (omega (arith, mul-le-mul-right {m = lo} {n = mid} s h))) (λ q. inr q) f) ∙ c .kept p (⊎-elim (λ q. inl q) (λ q. inr (omega (arith, mul-le-mul-right {m = mid} {n = hi} s m))) f);
+  -- more rows
+  pub columns-join : {end : ℕ} {last : List ℕ} → Columns g hi end s c j new last → lo ≤ hi → hi ≤ end → c + j ≤ s → Columns g lo end s c j old last
+  columns-join {end} {last} d h m l = record {
+    same-length = d .same-length ∙ w .same-length;
+    wrote = λ i a o k n. ⊎-elim (λ q. d .kept (i * s + (c + a)) (λ i′ a′ h′ k′ n′ e. omega (arith, row-end i i′ s (c + a) (omega arith) (omega arith))) ∙ w .wrote i a o q n) (λ q. d .wrote i a q k n) (lt-or-ge i hi);
+    kept = λ p f. d .kept p (λ i a o k n e. f i a (omega arith) k n e) ∙ w .kept p (λ i a o k n e. f i a o (omega arith) n e);
   }
+
+-- one column more, in front of these
+pub columns-front : {g : ℕ → ℕ → ℕ} {h : ℕ → ℕ} {lo hi s c j : ℕ} {old mid new : List ℕ} → Columns g lo hi s (c + 1) j old mid
+    → Column h lo hi s c mid new → c + j < s → Columns (inFront h g) lo hi s c (j + 1) old new
+unfolding inFront
+columns-front {g} {h} {lo} {hi} {s} {c} {j} {old} {mid} {new} w d l = record {
+  same-length = d .same-length ∙ w .same-length;
+  wrote = wrote;
+  kept = λ p f. d .kept p (λ i o k e. f i 0 o k (omega arith) (omega arith)) ∙ w .kept p (λ i a o k n e. f i (suc a) o k (omega arith) (omega arith));
+}
+  where
+    wrote : (i a : ℕ) → lo ≤ i → i < hi → a < j + 1 → getD new (i * s + (c + a)) 0 ≡ inFront h g a i
+    wrote i zero o k n = rw add-zero (d .wrote i o k)
+    wrote i (suc a) o k n =
+        let e : c + suc a ≡ c + 1 + a = omega arith in
+        d .kept (i * s + (c + suc a)) (λ i′ o′ k′ q. apart-columns i i′ s (c + suc a) c (omega arith) (omega arith) (λ x. omega arith) q)
+        ∙ rw e (w .wrote i a o k (omega arith))
 
 -- ---- all columns as a list
 
@@ -124,11 +145,11 @@ module _ (g : ℕ → ℕ → ℕ) (s : ℕ) where
           ∙ listed-at (λ x. g x k) s a h
           ∙ ap (g a) (sym e)
 
-module _ (g : ℕ → ℕ → ℕ) (s k : ℕ) (old new : List ℕ) (c : Columns g 0 k s s old new) (pos : 0 < s) (fits : k * s ≤ length old) where
+module _ (g : ℕ → ℕ → ℕ) (s k : ℕ) (old new : List ℕ) (c : Columns g 0 k s 0 s old new) (pos : 0 < s) (fits : k * s ≤ length old) where
   front : (p : ℕ) → p < k * s → getD new p 0 ≡ getD (rows g s k ++ drop (k * s) old) p 0
   front p l =
       let low : p / s < k = div-lt-iff-lt-mul {k = s} pos .1 l in
-      ap (λ (x : ℕ). getD new x 0) (sym (div-add-mod' p s))
+      ap (λ (x : ℕ). getD new x 0) {x = p} {y = p / s * s + (0 + p % s)} (omega (arith, div-add-mod' p s))
       ∙ c .wrote (p / s) (p % s) (omega arith) low (mod-lt p pos)
       ∙ sym (rows-at g s k (p / s) (p % s) low (mod-lt p pos))
       ∙ ap (λ (x : ℕ). getD (rows g s k) x 0) (div-add-mod' p s)
@@ -136,7 +157,7 @@ module _ (g : ℕ → ℕ → ℕ) (s k : ℕ) (old new : List ℕ) (c : Columns
 
   back : (p : ℕ) → k * s ≤ p → getD new p 0 ≡ getD (rows g s k ++ drop (k * s) old) p 0
   back p l =
-      c .kept p (inr l)
+      c .kept p (λ i a h m n e. omega (arith, row-end i k s a m n))
       ∙ ap (λ (x : ℕ). getD old x 0) {x = p} {y = k * s + (p - k * s)} (omega arith)
       ∙ sym (getD-drop (k * s) old (p - k * s) 0)
       ∙ sym (getD-append-add (rows g s k) (drop (k * s) old) (p - k * s) 0)
@@ -147,3 +168,21 @@ module _ (g : ℕ → ℕ → ℕ) (s k : ℕ) (old new : List ℕ) (c : Columns
       ext-getD 0 new (rows g s k ++ drop (k * s) old)
       (c .same-length ∙ rw (length-append, rows-length, length-drop) (omega arith))
       (λ p l. ⊎-elim (λ q. front p q) (λ q. back p q) (lt-or-ge p (k * s)))
+
+-- ---- a column in front of all others, as a list
+
+module _ {g : ℕ → ℕ → ℕ} {h : ℕ → ℕ} {s j k : ℕ} {old mid new : List ℕ} where
+  pub front-list : Columns g 0 k s 1 j old mid → Column h 0 k s 0 mid new → s ≡ j + 1 → k * s ≤ length old
+      → new ≡ rows (inFront h g) s k ++ drop (k * s) old
+  front-list w d e fits =
+      columns-list (inFront h g) s k old new (columns-to (columns-front {c = 0} w d (omega arith)) (sym e)) (omega arith) fits
+
+-- row i of such a list
+module _ (g : ℕ → ℕ → ℕ) (h : ℕ → ℕ) (i : ℕ) where
+  front-one : (j : ℕ) → listed (λ a. inFront h g a i) (suc j) ≡ h i ∷ listed (λ a. g a i) j
+  unfolding listed inFront
+  front-one zero = refl
+  front-one (suc j) = ap (λ (l : List ℕ). l ++ g j i ∷ []) (front-one j)
+
+  pub front-row : (s j : ℕ) → s ≡ j + 1 → listed (λ a. inFront h g a i) s ≡ h i ∷ listed (λ a. g a i) j
+  front-row s j e = ap (listed (λ a. inFront h g a i)) (e ∙ add-one j) ∙ front-one j

@@ -1,5 +1,7 @@
-// A buffer of points as rows, an axis a column: definitions and laws. The code here is where a part of the rows ends.
-ghost use Prim.Native.Nat.{ℕ, _^_, _<_, _≤_};
+// A buffer of points as rows, an axis a column: definitions and laws. The code here is where a part of the rows ends, and the rows numbered.
+ghost use Prim.Native.Nat.{ℕ, _+_, _*_, _^_, _<_, _≤_};
+ghost use lib.ListN.{length};
+ghost use Rattle.columns.specs.Rows.{Column};
 ghost use Rattle.columns.specs.Tiles.{Tiled};
 
 // The smaller of two numbers.
@@ -25,5 +27,19 @@ pub fn tile_at(x: u64, size: usize, i: usize, hi: usize) -> Tile
     Tile {
         place: place,
         end: end,
+    }
+}
+
+// Writes the first word of each of `k` rows, which have `s` words each: n, n + 1, and so on.
+pub fn number(n: u64, k: usize, s: usize, out: &mut [u64])
+    requires { ⌜ (1 ≤ s) × (k * s ≤ length (now out)) × (n + k ≤ 2 ^ 32) ⌝ }
+    ensures { λ r. ⌜ Column (_+_ n) 0 k s 0 (now (out .entry)) (now (out .exit)) ⌝ }
+{
+    let mut at = 0;
+    let mut i = 0;
+    while i < k {
+        out[at] = n + (i as u64);
+        at += s;
+        i += 1;
     }
 }

@@ -6,6 +6,10 @@ use day_set::DaySet;
 use plan::refusal;
 use state::Sampler;
 ghost use mathlib.Core.Path.{_≡_};
+ghost use Prim.Native.Nat.{_+_, _*_, _^_, _<_, _≤_};
+ghost use lib.ListN.{length, set};
+ghost use Rattle.columns.specs.Rows.{Column};
+ghost use Rattle.plan.specs.Order.{unlessNumber};
 ghost use Rattle.day_set.specs.Calls.{makeSpec, dayJumpSpec, dayJumpBuf, dayStepSpec, dayStepBuf, dayBlockSpec, dayBlockBuf};
 
 // Makes the day set of `size` points of a state's plan, whatever the state's run.
@@ -19,13 +23,32 @@ pub fn make_day_set(s: Sampler, size: u64) -> DayMoved
             set: day_set::blank_day_set(),
         };
     }
+    let run = r.state;
     DayMoved {
         code: 0,
-        set: DaySet { run: r.state },
+        set: DaySet { run },
     }
 }
 
-// Writes point `n` to the front of `out`: n, and the plan's point of index n behind it. A number that is not below the size is no index.
+// The index of point `n`, and one that is out of range where the set of `size` points has no such point.
+fn index_of(n: u64, size: u64) -> u64
+    ensures { λ r. ⌜ (n < size → r ≡ n) × (size ≤ n → r ≡ 2 ^ 32) ⌝ }
+{
+    if n < size { n } else { numbers::INDEXES }
+}
+
+// Puts a point's number into the first word, where the point was written behind it.
+fn put_number(code: u64, n: u64, out: &mut [u64])
+    requires { ⌜ (code ≡ 0 → 1 ≤ length (now out)) ⌝ }
+    ensures { λ r. ⌜ now (out .exit) ≡ unlessNumber code (set (now (out .entry)) 0 n) (now (out .entry)) ⌝ }
+{
+    if code != 0 {
+        return;
+    }
+    out[0] = n;
+}
+
+// Writes point `n` to the front of `out`: n, and the plan's point of index n behind it.
 pub fn day_jump(d: DaySet, n: u64, out: &mut [u64]) -> Jumped
     ensures { λ r. ⌜ (r ≡ dayJumpSpec d n (now (out .entry))) × (now (out .exit) ≡ dayJumpBuf d n (now (out .entry))) ⌝ }
 {
@@ -35,12 +58,10 @@ pub fn day_jump(d: DaySet, n: u64, out: &mut [u64]) -> Jumped
             code: refusal::INVALID_STATE,
         };
     }
-    let index = if n < s.count { n } else { numbers::INDEXES };
+    let index = index_of(n, s.count);
     let first = columns::least(1, out.len());
     let r = index_calls::jump(s, index, &mut out[first..]);
-    if r.code == 0 {
-        out[0] = n;
-    }
+    put_number(r.code, n, out);
     r
 }
 
@@ -58,13 +79,22 @@ pub fn day_step(d: DaySet, out: &mut [u64]) -> DayMoved
     let n = s.taken;
     let first = columns::least(1, out.len());
     let r = run_calls::step(s, &mut out[first..]);
-    if r.code == 0 {
-        out[0] = n;
-    }
+    put_number(r.code, n, out);
+    let run = r.state;
     DayMoved {
         code: r.code,
-        set: DaySet { run: r.state },
+        set: DaySet { run },
     }
+}
+// Puts the numbers from `n` on into the first words of `k` rows, where the points of so many axes were written behind them.
+fn put_numbers(code: u64, n: u64, k: usize, axes: usize, out: &mut [u64])
+    requires { ⌜ (code ≡ 0 → (axes ≤ 6) × (k * (1 + axes) ≤ length (now out)) × (n + k ≤ 2 ^ 32)) ⌝ }
+    ensures { λ r. ⌜ Column (_+_ n) 0 (unlessNumber code k 0) (1 + axes) 0 (now (out .entry)) (now (out .exit)) ⌝ }
+{
+    if code != 0 {
+        return;
+    }
+    columns::number(n, k, 1 + axes, out);
 }
 
 // Writes as many points as are left and fit whole, and moves on by that many.
@@ -82,12 +112,11 @@ pub fn day_block(d: DaySet, out: &mut [u64]) -> DayBlocked
     let axes = s.axes;
     let n = s.taken;
     let r = run_calls::block_rows(s, 1, out);
-    if r.code == 0 {
-        columns::number(n, r.points as usize, axes + 1, out);
-    }
+    put_numbers(r.code, n, r.points as usize, axes, out);
+    let run = r.state;
     DayBlocked {
         code: r.code,
         points: r.points,
-        set: DaySet { run: r.state },
+        set: DaySet { run },
     }
 }

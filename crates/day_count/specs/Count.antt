@@ -2,7 +2,7 @@
 -- plan. Definitions only.
 use mathlib.Core.Bool.{Bool, _&&_, not}
 use mathlib.Core.List.{List}
-use Prim.Native.Nat.{ℕ, suc, _+_}
+use Prim.Native.Nat.{ℕ, _+_}
 use lib.ListN.{getD, drop}
 use Rattle.numbers.specs.Count.{count}
 use Rattle.plan.specs.Plan.{Plan, halton, sobol}

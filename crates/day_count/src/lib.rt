@@ -4,28 +4,23 @@ use plan::refusal;
 use window_count::Counted;
 ghost use mathlib.Core.Path.{_≡_};
 ghost use mathlib.Core.Bool.{cond};
-ghost use Prim.Native.Nat.{_+_, _*_, _^_, _<_, _≤_};
+ghost use Prim.Native.Nat.{_+_, _^_, _<_};
 ghost use lib.Dec.{eqb};
 ghost use Rattle.day_count.specs.Count.{dayCountSpec};
-
-// How many points of a day set of `size` the leading cut u / q takes: the least number m with u × size at most m × q.
-fn taken_by(u: u64, q: u64, size: u64) -> u64
-    requires { ⌜ (u ≤ q) × (1 ≤ q) × (q ≤ 2 ^ 24) × (size ≤ 2 ^ 32) ⌝ }
-    ensures { λ r. ⌜ (r ≤ size) × (u * size ≤ r * q) × (r * q < u * size + q) ⌝ }
-{
-    (u * size + (q - 1)) / q
-}
 
 // The bound of a day set: that of the plan for as many points plus 1, and 0 for Sobol, which claims none.
 fn day_bound(family: u64, bound: u64) -> u64
     requires { ⌜ bound < 2 ^ 63 ⌝ }
     ensures { λ r. ⌜ r ≡ cond (eqb family 2) 0 (bound + 1) ⌝ }
 {
-    if family == 2 { 0 } else { bound + 1 }
+    if family == 2 {
+        return 0;
+    }
+    bound + 1
 }
 
 // How many points of the whole day set are inside the window `w`, which has u and q for the leading axis and for each axis of the plan in turn;
-// and the bound. The leading cut takes the first points, so that only these are walked. It moves nothing.
+// and the bound. The leading cut takes the first points, and only these are walked. It moves nothing.
 pub fn day_count(d: DaySet, w: &[u64]) -> Counted
     ensures { λ r. ⌜ r ≡ dayCountSpec d (now (w .entry)) ⌝ }
 {
@@ -50,14 +45,14 @@ pub fn day_count(d: DaySet, w: &[u64]) -> Counted
     if !window::is_window(w, axes + 1) {
         return window_count::refused(refusal::BAD_WINDOW);
     }
-    let m = taken_by(w[0], w[1], s.count);
+    let first = inside_count::cut_limit(w[0], w[1], s.count);
     let inside = inside_count::count_inside(
         s.family,
         axes,
         &s.bases,
         &s.directions,
         0,
-        m as usize,
+        first as usize,
         &w[2..],
     );
     let bound = window::bound(s.family, axes, &s.bases, &s.directions, s.count);

@@ -2,13 +2,15 @@
 -- n, from 0 to N - 1, has the leading axis n / N and then the plan's axes at index n. A day set is held as a sampler whose run has start 0 and
 -- count N. Definitions only.
 use mathlib.Core.Bool.{Bool}
-use mathlib.Core.List.{List, [], _∷_, _++_}
-use Prim.Native.Nat.{ℕ, zero, suc, _+_}
+use mathlib.Core.List.{List, _∷_}
+use Prim.Native.Nat.{ℕ, suc}
 use lib.Dec.{eqb}
+use Rattle.numbers.specs.Listed.{joined}
 use Rattle.plan.specs.Plan.{Plan}
 use Rattle.points.specs.Point.{pointOf}
 use Rattle.points.specs.Run.{Run, runOf}
 use Rattle.state.specs.State.{both, made, blank, planIn, genuine}
+use Rattle.state.specs.declared.Sampler.{Sampler}
 use Rattle.day_set.specs.declared.DaySet.{DaySet}
 
 -- ---- its points
@@ -18,9 +20,8 @@ unfoldable pub dayPoint : Plan → ℕ → List ℕ
 dayPoint p n = n ∷ pointOf p n
 
 -- the points n, n + 1, .., n + k - 1, one after another
-unfoldable pub dayPoints : Plan → ℕ → ℕ → List ℕ
-dayPoints p n zero = []
-dayPoints p n (suc k) = dayPoints p n k ++ dayPoint p (n + k)
+abbrev pub dayPoints : Plan → ℕ → ℕ → List ℕ
+dayPoints p = joined (dayPoint p)
 
 -- ---- its state
 
@@ -28,13 +29,16 @@ dayPoints p n (suc k) = dayPoints p n k ++ dayPoint p (n + k)
 abbrev pub dayRun : ℕ → Run
 dayRun N = runOf 0 N
 
+abbrev pub dayOf : Sampler → DaySet
+dayOf s = record { run = s }
+
 -- the day set of N points of this plan, so many of which are taken
 unfoldable pub dayMade : Plan → ℕ → ℕ → DaySet
-dayMade p N taken = record { run = made p (dayRun N) taken }
+dayMade p N taken = dayOf (made p (dayRun N) taken)
 
 -- the day set that is all zero
 unfoldable pub dayBlank : DaySet
-dayBlank = record { run = blank }
+dayBlank = dayOf blank
 
 -- the plan that a day set holds, and the numbers of its points and of those taken
 abbrev pub dayPlan : DaySet → Plan

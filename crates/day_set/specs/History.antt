@@ -1,12 +1,12 @@
 -- Calls on a day set in a row, by their own answers: the day sets that accepted calls leave (02-change-requests.md, K1), and what steps and blocks
 -- serve of one. Definitions only.
 use mathlib.Core.Path.{_≡_}
-use mathlib.Core.List.{List, [], _∷_, _++_}
+use mathlib.Core.List.{List, []}
 use Prim.Native.Nat.{ℕ, _*_}
 use lib.ListN.{take}
 use Rattle.plan.specs.Order.{unlessNumber}
 use Rattle.state.specs.declared.Sampler.{Sampler}
-use Rattle.calls.specs.History.{After, Request, step, block}
+use Rattle.calls.specs.History.{After, Request, step, block, Server, allMoved, allWritten}
 use Rattle.day_set.specs.DaySet.{dayWidth}
 use Rattle.day_set.specs.Calls.{makeSpec, dayStepSpec, dayStepBuf, dayBlockSpec, dayBlockBuf}
 use Rattle.day_set.specs.declared.DaySet.{DaySet}
@@ -40,10 +40,11 @@ dayWrittenBy (step buf) d = unlessNumber (dayStepSpec d buf .code) (take (dayWid
 dayWrittenBy (block buf) d = take (dayBlockSpec d buf .points * dayWidth d) (dayBlockBuf d buf)
 
 -- requests one after another: the day set that they leave, and the points that they write
-unfoldable pub dayAfter : List Request → DaySet → DaySet
-dayAfter [] d = d
-dayAfter (q ∷ requests) d = dayAfter requests (dayMovedBy q d)
+abbrev pub dayServer : Server DaySet
+dayServer = record { moved = dayMovedBy; written = dayWrittenBy }
 
-unfoldable pub dayServed : List Request → DaySet → List ℕ
-dayServed [] d = []
-dayServed (q ∷ requests) d = dayWrittenBy q d ++ dayServed requests (dayMovedBy q d)
+abbrev pub dayAfter : List Request → DaySet → DaySet
+dayAfter = allMoved dayServer
+
+abbrev pub dayServed : List Request → DaySet → List ℕ
+dayServed = allWritten dayServer

@@ -2,7 +2,7 @@
 use mathlib.Core.Path.{_≡_}
 use mathlib.Core.Logic.{⊎-elim}
 use Prim.Native.Nat.{ℕ, zero, suc, _*_, _^_, _≤_, _<_}
-use native.Mathlib.Nat.{le-refl, le-trans, le-of-lt, dvd-refl, dvd-zero, mul-le-mul-right}
+use native.Mathlib.Nat.{le-refl, le-of-lt, dvd-refl, dvd-zero, mul-le-mul-right}
 use native.Mathlib.Omega.{arith}
 use Rattle.numbers.specs.Gcd.{Coprime, Invertible}
 use Rattle.numbers.specs.Count.{count, each}
@@ -36,36 +36,30 @@ steps-le (suc n) a z = omega (arith, z .reach n (le-refl (suc n)), mul-le-mul-ri
 abbrev pub Apart : (ℕ → CutAxis) → ℕ → ℕ → Type 0
 Apart ax s M = (i : ℕ) → i < s → Invertible M (ax i .base)
 
--- The bound may be that of more steps than are counted.
-pub axes-fair : (N N′ : ℕ) → N ≤ N′ → (ax : ℕ → CutAxis) (s : ℕ) → SoundAxes N′ ax s
-    → Fair N (Apart ax s) (inside ax s) (productTo (uOf ax) s) (productTo (qOf ax) s) (bound (baseOf ax) s N′)
+pub axes-fair : (N : ℕ) (ax : ℕ → CutAxis) (s : ℕ) → SoundAxes N ax s
+    → Fair N (Apart ax s) (inside ax s) (productTo (uOf ax) s) (productTo (qOf ax) s) (bound (baseOf ax) s N)
 unfolding inCut inside each productTo factor
-axes-fair N N′ h ax zero z = fair-none N (Apart ax 0)
-axes-fair N N′ h ax (suc s) z =
-    fair-axis (last .permutes) (omega (arith, last .base-big)) (axes-fair N N′ h ax s fewer) closed
+axes-fair N ax zero z = fair-none N (Apart ax 0)
+axes-fair N ax (suc s) z =
+    fair-axis (last .permutes) (omega (arith, last .base-big)) (axes-fair N ax s fewer) closed
     (a .q) (last .q-pos) (Apart ax (suc s)) (λ M m. (λ i l. m i (omega arith), m s (le-refl (suc s))))
-    (a .start) (a .stride) (a .depth) (digitCount (a .base) N′) (a .u) (last .u-le) (invertible (a .stride) (a .base) (last .stride-coprime))
-    (le-trans h (le-of-lt (digit-count-reaches (a .base) N′ (last .base-big)))) (le-trans h (steps-le N′ a last))
+    (a .start) (a .stride) (a .depth) (digitCount (a .base) N) (a .u) (last .u-le) (invertible (a .stride) (a .base) (last .stride-coprime))
+    (le-of-lt (digit-count-reaches (a .base) N (last .base-big))) (steps-le N a last)
   where
     a : CutAxis
     a = ax s
 
-    last : Sound N′ a
+    last : Sound N a
     last = z .sound s (le-refl (suc s))
 
-    fewer : SoundAxes N′ ax s
+    fewer : SoundAxes N ax s
     fewer = record { sound = λ i l. z .sound i (omega arith); coprime = λ i j l m. z .coprime i j l (omega arith) }
 
     closed : (M : ℕ) → Apart ax s M → Apart ax s (M * a .base)
     closed M m i l = invertible-mul (m i l) (invertible (a .base) (ax i .base) (z .coprime s i l (le-refl (suc s))))
 
--- of the first N of N′ steps
-pub first-near : (N N′ : ℕ) → N ≤ N′ → (ax : ℕ → CutAxis) (s : ℕ) → SoundAxes N′ ax s
-    → Near N (count (inside ax s) N) (productTo (uOf ax) s) (productTo (qOf ax) s) (bound (baseOf ax) s N′)
-first-near N N′ h ax s z = fair-near (axes-fair N N′ h ax s z) (λ i l. invertible-one (ax i .base))
-
 pub axes-near : (N : ℕ) (ax : ℕ → CutAxis) (s : ℕ) → SoundAxes N ax s → Near N (count (inside ax s) N) (productTo (uOf ax) s) (productTo (qOf ax) s) (bound (baseOf ax) s N)
-axes-near N ax s z = first-near N N (le-refl N) ax s z
+axes-near N ax s z = fair-near (axes-fair N ax s z) (λ i l. invertible-one (ax i .base))
 
 -- ---- a run with indexes below 2^32
 

@@ -33,7 +33,7 @@ directions-of {family} {bases} {vs} {i} a e k = record {
 -- ---- flags
 
 -- below the limit is below the cut
-limit-cut : (x d u q : ℕ) → 1 ≤ q → ltb x (cutLimit u q d) ≡ belowCut x d u q
+pub limit-cut : (x d u q : ℕ) → 1 ≤ q → ltb x (cutLimit u q d) ≡ belowCut x d u q
 unfolding cutLimit belowCut
 limit-cut x d u q pos = lt-iff x ((u * d + (q - 1)) / q) (x * q) (u * d) (λ h. there h) (λ h. back h)
   where

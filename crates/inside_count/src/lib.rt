@@ -10,7 +10,7 @@ ghost use Rattle.window.specs.Walking.{insideFrom, Room};
 ghost use Rattle.inside_count.specs.Flagging.{cutLimit, Flags};
 
 // The least numerator over `d` that is not below the cut u / q: one division a cut saves a product a point.
-fn cut_limit(u: u64, q: u64, d: u64) -> u64
+pub fn cut_limit(u: u64, q: u64, d: u64) -> u64
     requires { ⌜ (u ≤ 2 ^ 24) × (1 ≤ q) × (q ≤ 2 ^ 24) × (d < 2 ^ 40) ⌝ }
     ensures { λ r. ⌜ r ≡ cutLimit u q d ⌝ }
 {

@@ -1,11 +1,13 @@
--- How many numbers pass a test: equal tests count alike, a split test adds up, a run may be cut in two. Assumes nothing.
+-- How many numbers pass a test: equal tests count alike, a split test adds up, a run may be cut in two, a limit takes the first ones. Assumes
+-- nothing.
 use mathlib.Core.Path.{_≡_, refl, sym, ap, ap₂, _∙_}
 use mathlib.Core.Logic.{_⊎_, inl, inr}
-use mathlib.Core.Bool.{Bool, true, false}
-use Prim.Native.Nat.{ℕ, zero, suc, _+_, _<_, _≤_}
-use native.Mathlib.Nat.{add-zero, add-suc, add-assoc}
+use mathlib.Core.Bool.{Bool, true, false, _&&_}
+use Prim.Native.Nat.{ℕ, zero, suc, _+_, _-_, _<_, _≤_}
+use native.Mathlib.Nat.{add-zero, add-suc, add-assoc, add-sub-of-le, le-add-right}
 use native.Mathlib.Omega.{arith}
-use lib.Dec.{T}
+use lib.Dec.{T, ltb}
+use borrow.Author.Tests.{lt-ltb, le-ltb}
 use Rattle.numbers.specs.Count.{bit, count}
 
 pub count-ext : (p q : ℕ → Bool) (n : ℕ) → ((i : ℕ) → i < n → p i ≡ q i) → count p n ≡ count q n
@@ -54,3 +56,14 @@ pub count-parts : (p : ℕ → Bool) (m n : ℕ) → count p (m + n) ≡ count p
 unfolding count
 count-parts p m zero = ap (count p) (add-zero m) ∙ sym (add-zero (count p m))
 count-parts p m (suc n) = rw (add-suc, count-parts p m n) (add-assoc (count p m) (count (λ i. p (m + i)) n) (bit (p (m + n))))
+
+-- those below m alone, of n numbers
+pub count-first : (p q : ℕ → Bool) (m n : ℕ) → m ≤ n → ((i : ℕ) → p i ≡ ltb i m && q i) → count p n ≡ count q m
+count-first p q m n h same =
+    ap (count p) (sym (add-sub-of-le h)) ∙ count-parts p m (n - m) ∙ rw (count-ext p q m below, count-none (λ i. p (m + i)) (n - m) above) (add-zero (count q m))
+  where
+    below : (i : ℕ) → i < m → p i ≡ q i
+    below i l = same i ∙ rw (lt-ltb i m l) refl
+
+    above : (i : ℕ) → p (m + i) ≡ false
+    above i = same (m + i) ∙ rw (le-ltb (m + i) m (le-add-right m i)) refl

@@ -1,11 +1,11 @@
--- Powers, sums, and how many digits a number has: the least K with b ^ K above it. Assumes nothing.
+-- Powers, sums, products, and how many digits a number has: the least K with b ^ K above it. Assumes nothing.
 use mathlib.Core.Path.{_≡_, refl, sym, ap, ap₂, _∙_}
 use mathlib.Core.Logic.{_↔_}
 use Prim.Native.Nat.{ℕ, zero, suc, _+_, _*_, _/_, _^_, _<_, _≤_, suc-le-suc}
-use native.Mathlib.Nat.{le-refl, lt-of-le-of-lt, lt-of-lt-of-le, div-lt-self, div-lt-iff-lt-mul, pow-zero, pow-suc, pow-le-pow-left, pow-le-pow-right, one-le-pow, div-div-eq-div-mul, div-one, zero-lt-suc, add-mul, zero-mul}
+use native.Mathlib.Nat.{le-refl, lt-of-le-of-lt, lt-of-lt-of-le, div-lt-self, div-lt-iff-lt-mul, pow-zero, pow-suc, pow-le-pow-left, pow-le-pow-right, one-le-pow, div-div-eq-div-mul, div-one, zero-lt-suc, add-mul, zero-mul, mul-assoc, mul-le-mul}
 use native.Mathlib.Numerals.{add-one}
 use native.Mathlib.Omega.{arith}
-use Rattle.numbers.specs.Digits.{sum, digitCountIn, digitCount}
+use Rattle.numbers.specs.Digits.{sum, productTo, digitCountIn, digitCount}
 
 -- ---- powers and quotients
 
@@ -40,6 +40,19 @@ sum-times f (suc k) c = rw (sum-times f k c) (sym (add-mul (sum f k) (f k) c))
 pub sum-one-more : (f : ℕ → ℕ) (k : ℕ) → sum f (k + 1) ≡ sum f k + f k
 unfolding sum
 sum-one-more f k = rw add-one refl
+
+-- ---- products
+
+-- the first factor apart
+pub product-front : (f g : ℕ → ℕ) → ((i : ℕ) → f (suc i) ≡ g i) → (k : ℕ) → productTo f (suc k) ≡ f 0 * productTo g k
+unfolding productTo
+product-front f g h zero = omega arith
+product-front f g h (suc k) = rw (product-front f g h k, h k) (mul-assoc (f 0) (productTo g k) (g k))
+
+pub product-mono : (f g : ℕ → ℕ) (k : ℕ) → ((i : ℕ) → i < k → f i ≤ g i) → productTo f k ≤ productTo g k
+unfolding productTo
+product-mono f g zero h = le-refl 1
+product-mono f g (suc k) h = mul-le-mul (product-mono f g k (λ i l. h i (omega arith))) (h k (omega arith))
 
 -- ---- the digit count
 

@@ -9,3 +9,4 @@ pub mod DepthLaws
 pub mod ReciprocalLaws
 pub mod CountLaws
 pub mod ListedLaws
+pub mod JoinedLaws

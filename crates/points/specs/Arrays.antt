@@ -3,7 +3,7 @@
 use mathlib.Core.Path.{_≡_}
 use mathlib.Core.Bool.{Bool, true, false}
 use mathlib.Core.List.{List, [], _∷_, _++_}
-use Prim.Native.Nat.{ℕ, zero, suc, _+_, _*_, _^_, _≤_, _<_}
+use Prim.Native.Nat.{ℕ, _+_, _*_, _^_, _≤_, _<_}
 use lib.Dec.{eqb}
 use lib.ListN.{length, take, drop, getD, replicate}
 use Rattle.numbers.specs.Depth.{denominator}
@@ -59,11 +59,6 @@ numeratorFrom family bases vs n i t = numeratorAt family bases vs (n + t) i
 -- the point of index n, 0 on the axes that the plan lacks
 unfoldable pub pointAt : ℕ → ℕ → List ℕ → List ℕ → ℕ → List ℕ
 pointAt family axes bases vs n = padded 6 (listed (numeratorAt family bases vs n) axes)
-
--- the points of the indexes n, n + 1, .., n + k - 1, point after point
-unfoldable pub pointsAt : ℕ → ℕ → List ℕ → List ℕ → ℕ → ℕ → List ℕ
-pointsAt family axes bases vs n zero = []
-pointsAt family axes bases vs n (suc k) = pointsAt family axes bases vs n k ++ listed (numeratorAt family bases vs (n + k)) axes
 
 unfoldable pub denominatorBy : Bool → List ℕ → ℕ → ℕ
 denominatorBy true bases i = 2 ^ 32

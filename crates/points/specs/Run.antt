@@ -1,10 +1,10 @@
 -- A run of a plan's points (01-scope.md, "Runs and windows"): which index an axis reads at a step, and the points in their order. Definitions
 -- only.
 use mathlib.Core.Bool.{Bool}
-use mathlib.Core.List.{List, [], _++_}
-use Prim.Native.Nat.{ℕ, zero, suc, _+_, _^_}
+use mathlib.Core.List.{List}
+use Prim.Native.Nat.{ℕ, _+_, _^_}
 use lib.Dec.{leb}
-use Rattle.numbers.specs.Listed.{listed}
+use Rattle.numbers.specs.Listed.{listed, joined}
 use Rattle.plan.specs.Plan.{Plan}
 use Rattle.points.specs.Point.{axisCount, numeratorOf}
 
@@ -35,6 +35,5 @@ unfoldable pub runPoint : Plan → Run → ℕ → List ℕ
 runPoint p r t = listed (runNumerator p r t) (axisCount p)
 
 -- the points of the steps t, t + 1, .., t + k - 1, point after point
-unfoldable pub runPoints : Plan → Run → ℕ → ℕ → List ℕ
-runPoints p r t zero = []
-runPoints p r t (suc k) = runPoints p r t k ++ runPoint p r (t + k)
+abbrev pub runPoints : Plan → Run → ℕ → ℕ → List ℕ
+runPoints p r = joined (runPoint p r)

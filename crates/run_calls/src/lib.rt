@@ -4,8 +4,9 @@ use calls::Moved;
 use plan::refusal;
 use state::Sampler;
 ghost use mathlib.Core.Path.{_≡_};
-ghost use Prim.Native.Nat.{_/_, _≤_, min};
-ghost use Rattle.calls.specs.Calls.{blocked, stepSpec, stepBuf, blockSpec, blockBuf};
+ghost use Prim.Native.Nat.{_+_, _/_, _≤_, min};
+ghost use Rattle.columns.specs.Rows.{Columns};
+ghost use Rattle.calls.specs.Calls.{blocked, stepSpec, stepBuf, blockSpec, blockBuf, rowsSpec, rowNumerator};
 
 // Writes the run's next point to the front of `out`, and moves on by one.
 pub fn step(s: Sampler, out: &mut [u64]) -> Moved
@@ -59,11 +60,11 @@ fn no_block(code: u64, s: Sampler) -> Blocked
 }
 
 // How many points a block takes: as many as are left and fit whole.
-fn block_size(left: u64, room: usize, axes: usize) -> usize
-    requires { ⌜ 1 ≤ axes ⌝ }
-    ensures { λ r. ⌜ r ≡ min left (room / axes) ⌝ }
+fn block_size(left: u64, room: usize, width: usize) -> usize
+    requires { ⌜ 1 ≤ width ⌝ }
+    ensures { λ r. ⌜ r ≡ min left (room / width) ⌝ }
 {
-    let whole = room / axes;
+    let whole = room / width;
     if left < (whole as u64) {
         left as usize
     } else {
@@ -71,9 +72,12 @@ fn block_size(left: u64, room: usize, axes: usize) -> usize
     }
 }
 
-// Writes as many of the run's points as are left and fit whole, and moves on by that many.
-pub fn block(s: Sampler, out: &mut [u64]) -> Blocked
-    ensures { λ r. ⌜ (r ≡ blockSpec s (now (out .entry))) × (now (out .exit) ≡ blockBuf s (now (out .entry))) ⌝ }
+// Writes as many of the run's points as are left and fit whole, in rows that have `lead` words before each point, and moves on by that many. The
+// words before a point stay as they are.
+pub fn block_rows(s: Sampler, lead: usize, out: &mut [u64]) -> Blocked
+    requires { ⌜ lead ≤ 1 ⌝ }
+    ensures { λ r. ⌜ (r ≡ rowsSpec lead s (now (out .entry)))
+        × Columns (rowNumerator s) 0 (r .points) (lead + s .axes) lead (s .axes) (now (out .entry)) (now (out .exit)) ⌝ }
 {
     if !genuine::is_genuine(
         s.family,
@@ -92,12 +96,14 @@ pub fn block(s: Sampler, out: &mut [u64]) -> Blocked
         return no_block(refusal::EXHAUSTED, s);
     }
     let axes = s.axes;
-    if out.len() < axes {
+    let width = lead + axes;
+    if out.len() < width {
         return no_block(refusal::BUFFER_TOO_SMALL, s);
     }
-    let k = block_size(s.count - s.taken, out.len(), axes);
+    let k = block_size(s.count - s.taken, out.len(), width);
     blocks::fill(
         out,
+        lead,
         s.family,
         axes,
         &s.bases,
@@ -121,6 +127,13 @@ pub fn block(s: Sampler, out: &mut [u64]) -> Blocked
         points: k as u64,
         state: t,
     }
+}
+
+// Writes as many of the run's points as are left and fit whole, and moves on by that many.
+pub fn block(s: Sampler, out: &mut [u64]) -> Blocked
+    ensures { λ r. ⌜ (r ≡ blockSpec s (now (out .entry))) × (now (out .exit) ≡ blockBuf s (now (out .entry))) ⌝ }
+{
+    block_rows(s, 0, out)
 }
 
 // Steps a sampler in place: the same as `step`, its state stored where the sampler is.

@@ -13,11 +13,11 @@ use Rattle.plan.specs.Reading.{accepted}
 use Rattle.plan.specs.Answer.{answerOf, axesOf, planBy, planOf, planAnswered, Accepted}
 use Rattle.plan.specs.declared.PlanRead.{PlanRead}
 use Rattle.points.specs.Point.{axisCount, pointOf}
-use Rattle.points.specs.Run.{Run, runPoint, runPoints}
-use Rattle.points.specs.Arrays.{familyOf, basesArray, polynomialsArray, directionsIn, directionsArray, pointAt, pointsAt, Arrays}
+use Rattle.points.specs.Run.{Run, runPoint}
+use Rattle.points.specs.Arrays.{familyOf, basesArray, polynomialsArray, directionsIn, directionsArray, pointAt, Arrays}
 use Rattle.points.proofs.PointLaws.{axis-count}
 use Rattle.points.proofs.ArrayLaws.{arrays-of, point-at-plan}
-use Rattle.points.proofs.RunLaws.{run-point, run-points-at-plan}
+use Rattle.points.proofs.RunLaws.{run-point}
 use Rattle.state.specs.State.{nextPoint, made, blank, planIn, runIn, genuine}
 use Rattle.state.specs.declared.Sampler.{Sampler}
 use Rattle.state.proofs.GenuineLaws.{Genuine, genuine-is}
@@ -51,9 +51,6 @@ module _ {p : Plan} {family axes : ℕ} {bases vs : List ℕ} (h : Holds p famil
   module _ (r : Run) where
     pub holds-step : (t : ℕ) → pointAt family axes bases vs (r .start + t) ≡ padded 6 (runPoint p r t)
     holds-step t = holds-point (r .start + t) ∙ ap (padded 6) (sym (run-point p r t))
-
-    pub holds-steps : (t k : ℕ) → pointsAt family axes bases vs (r .start + t) k ≡ runPoints p r t k
-    holds-steps t k = rw (h .family-is, h .axes-is, h .bases-is, h .directions-is) (run-points-at-plan p r v t k)
 
     pub holds-next : (taken : ℕ)
         → cond (ltb taken (r .count)) (pointAt family axes bases vs (r .start + taken)) (replicate 6 0) ≡ nextPoint p r taken
@@ -160,10 +157,6 @@ module _ {s : Sampler} (g : Genuine s) where
 
   pub genuine-point : (n : ℕ) → pointAt (s .family) (s .axes) (s .bases) (s .directions) n ≡ padded 6 (pointOf (planIn s) n)
   genuine-point = holds-point genuine-holds (g .valid)
-
-  -- the points of the state's run, from step t on
-  pub genuine-steps : (t k : ℕ) → pointsAt (s .family) (s .axes) (s .bases) (s .directions) (s .start + t) k ≡ runPoints (planIn s) (runIn s) t k
-  genuine-steps = holds-steps genuine-holds (g .valid) (runIn s)
 
   -- where a point is left, the state has it
   pub genuine-current : s .taken < s .count → s .numerators ≡ pointAt (s .family) (s .axes) (s .bases) (s .directions) (s .start + s .taken)

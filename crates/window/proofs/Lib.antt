@@ -3,3 +3,4 @@ pub mod Demand3
 pub mod WindowLaws
 pub mod RangeLaws
 pub mod PlanLaws
+pub mod LeadingLaws

@@ -1,8 +1,8 @@
--- The walk over a plan's arrays counts the plan's points, and the bound by them is the plan's. Assumes nothing.
+-- The walk over a plan's arrays counts the plan's points, and the bound by them is the plan's, a word. Assumes nothing.
 use mathlib.Core.Path.{_≡_, refl, sym, ap, _∙_}
 use mathlib.Core.Logic.{⊎-elim}
 use mathlib.Core.List.{List, [], _∷_}
-use Prim.Native.Nat.{ℕ, zero, suc, _+_, _<_}
+use Prim.Native.Nat.{ℕ, zero, suc, _+_, _^_, _≤_, _<_}
 use native.Mathlib.Nat.{add-zero, le-of-suc-le-suc, eq-or-lt-of-le}
 use native.Mathlib.Omega.{arith}
 use lib.Dec.{eqb}
@@ -16,6 +16,7 @@ use Rattle.numbers.proofs.CountLaws.{count-ext}
 use Rattle.numbers.proofs.EachLaws.{each-ext}
 use Rattle.numbers.proofs.ListedLaws.{padded-at}
 use Rattle.discrepancy.specs.Bound.{bound}
+use Rattle.discrepancy.proofs.FitLaws.{bound-fits}
 use Rattle.plan.specs.Plan.{Plan, halton, sobol, Valid}
 use Rattle.points.specs.Point.{axisCount}
 use Rattle.points.specs.Run.{Run, indexAt, runNumerator}
@@ -26,7 +27,7 @@ use Rattle.window.specs.Walking.{axisInsideBy, insideFrom, boundBy}
 
 -- ---- the cuts of a list of numbers
 
-cuts-length : (w : List ℕ) (s : ℕ) → length (cutsOf w s) ≡ s
+pub cuts-length : (w : List ℕ) (s : ℕ) → length (cutsOf w s) ≡ s
 unfolding cutsOf
 cuts-length w zero = refl
 cuts-length w (suc s) = rw (length-append, cuts-length w s) (omega arith)
@@ -68,6 +69,11 @@ bound-plan : (p : Plan) → Valid p → (N : ℕ) → boundBy (eqb (familyOf p) 
 unfolding Valid familyOf basesArray axisCount boundBy boundOf
 bound-plan (halton family bases) v N = rw (ne-eqb family 2 (λ e. omega arith)) (bound-padded bases N (length bases))
 bound-plan (sobol axes) v N = refl
+
+pub bound-of-fits : (p : Plan) → Valid p → (N : ℕ) → N ≤ 2 ^ 32 → boundOf p N < 2 ^ 63
+unfolding Valid boundOf
+bound-of-fits (halton family bases) v N h = bound-fits N (baseAt bases) h (length bases) (v .1 .1) (λ i l. (v .2 .low i l, v .2 .high i l))
+bound-of-fits (sobol axes) v N h = omega arith
 
 -- arrays that are a plan's
 module _ (p : Plan) {family axes : ℕ} {bases : List ℕ} (f : family ≡ familyOf p) (a : axes ≡ axisCount p) (b : bases ≡ basesArray p) (v : Valid p) where

@@ -53,11 +53,12 @@ module _ (w : List ℕ) (s : ℕ) where
   window-is e a = rw (eq-eqb (length w) (2 * s) e, a) refl
 
   module _ (h : isWindow w s ≡ true) where
-    window-parts : (eqb (length w) (2 * s) ≡ true) × (each (isCutAt w) s ≡ true)
+    pub window-parts : (length w ≡ 2 * s) × (each (isCutAt w) s ≡ true)
     unfolding isWindow
-    window-parts = and-eq-true-iff (eqb (length w) (2 * s)) (each (isCutAt w) s) .0 h
+    window-parts = let a = and-eq-true-iff (eqb (length w) (2 * s)) (each (isCutAt w) s) .0 h in (eqb-true (length w) (2 * s) (a .0), a .1)
 
-    range-at : (i : ℕ) → i < s → let c = cutAt w i in (0 < c .q) × (c .q ≤ 2 ^ 24) × (c .u ≤ c .q)
+    -- each of its cuts is in range
+    pub range-at : (i : ℕ) → i < s → let c = cutAt w i in (0 < c .q) × (c .q ≤ 2 ^ 24) × (c .u ≤ c .q)
     range-at i l = cut-range (cutAt w i) (each-at (isCutAt w) s i (window-parts .1) l)
 
     -- such a window has cuts
@@ -69,7 +70,7 @@ module _ (w : List ℕ) (s : ℕ) where
     pub window-room : Room w s
     window-room =
         record {
-          enough = omega (arith, eqb-true (length w) (2 * s) (window-parts .0));
+          enough = omega (arith, window-parts .0);
           u-small = λ i l. let r = range-at i l in omega (arith, r .1, r .2);
           q-pos = λ i l. range-at i l .0;
           q-small = λ i l. range-at i l .1;
@@ -86,7 +87,7 @@ module _ (bases : List ℕ) (N : ℕ) where
   unfolding productTo
   bound-over-more s = rw add-one refl
 
-  pub bound-over-fits : N ≤ 2 ^ 32 → (s : ℕ) → s ≤ 6 → ((i : ℕ) → i < s → (2 ≤ getD bases i 0) × (getD bases i 0 ≤ 256)) → bound (baseAt bases) s N < 2 ^ 64
+  pub bound-over-fits : N ≤ 2 ^ 32 → (s : ℕ) → s ≤ 6 → ((i : ℕ) → i < s → (2 ≤ getD bases i 0) × (getD bases i 0 ≤ 256)) → bound (baseAt bases) s N < 2 ^ 63
   bound-over-fits h s l b = bound-fits N (baseAt bases) h s l b
 
 pub bound-sobol : (family : ℕ) (bases : List ℕ) (N s : ℕ) → family ≡ 2 → 0 ≡ boundBy (eqb family 2) bases N s

@@ -20,9 +20,9 @@ fn is_cut(u: u64, q: u64) -> bool
     u <= q
 }
 
-// Whether `w` has one u and one q for each axis, each in its range.
+// Whether `w` has one u and one q for each axis, each in its range. A day set has one axis more than its plan.
 pub fn is_window(w: &[u64], axes: usize) -> bool
-    requires { ⌜ axes ≤ 6 ⌝ }
+    requires { ⌜ axes ≤ 7 ⌝ }
     ensures { λ r. ⌜ r ≡ isWindow (now (w .entry)) axes ⌝ }
 {
     if w.len() != 2 * axes {

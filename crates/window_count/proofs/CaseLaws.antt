@@ -10,6 +10,7 @@ use borrow.Author.Tests.{not-false}
 use Rattle.numbers.specs.Count.{count}
 use Rattle.plan.specs.Order.{firstDue, unlessDue}
 use Rattle.plan.proofs.OrderLaws.{none-due, other-due, none-given}
+use Rattle.points.specs.Run.{Run}
 use Rattle.state.specs.State.{planIn, runIn, genuine}
 use Rattle.state.specs.declared.Sampler.{Sampler}
 use Rattle.state.proofs.GenuineLaws.{Genuine, genuine-is}
@@ -52,12 +53,13 @@ module _ (s : Sampler) (w : List ℕ) where
     is : Genuine s
     is = genuine-is s g
 
-    pub count-walked : count (insideFrom (s .family) (s .bases) (s .directions) w (s .axes) (s .start)) (s .count)
-        ≡ insideCount (planIn s) (cutsOf w (s .axes)) (runIn s)
-    count-walked =
+    -- over any run of the state's plan
+    pub count-walked : (r : Run) → count (insideFrom (s .family) (s .bases) (s .directions) w (s .axes) (r .start)) (r .count)
+        ≡ insideCount (planIn s) (cutsOf w (s .axes)) r
+    count-walked r =
         let h = genuine-holds is in
-        count-held (planIn s) (h .family-is) (h .axes-is) (h .bases-is) (is .valid) (h .directions-is) w (runIn s)
-        ∙ ap (λ (k : ℕ). insideCount (planIn s) (cutsOf w k) (runIn s)) (sym (h .axes-is))
+        count-held (planIn s) (h .family-is) (h .axes-is) (h .bases-is) (is .valid) (h .directions-is) w r
+        ∙ ap (λ (k : ℕ). insideCount (planIn s) (cutsOf w k) r) (sym (h .axes-is))
 
     pub bound-known : (N : ℕ) → boundBy (eqb (s .family) 2) (s .bases) N (s .axes) ≡ boundOf (planIn s) N
     bound-known N = let h = genuine-holds is in bound-held (planIn s) (h .family-is) (h .axes-is) (h .bases-is) (is .valid) N

@@ -12,7 +12,7 @@ pub struct Counted {
 }
 
 // A count that is turned down: its number, and zeros.
-fn refused(code: u64) -> Counted
+pub fn refused(code: u64) -> Counted
     ensures { λ r. ⌜ r ≡ counted code 0 0 ⌝ }
 {
     Counted {

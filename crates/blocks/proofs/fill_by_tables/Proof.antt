@@ -1,24 +1,20 @@
--- `blocks::fill_by_tables` meets its contract: the rows up to `row` are written, and rows of numerators are the points. Assumes nothing.
-use mathlib.Core.Path.{ap, _∙_}
-use mathlib.Core.List.{List, _++_}
+-- `blocks::fill_by_tables` meets its contract: the points of the rows up to `row` are written. Assumes nothing.
 use native.Mathlib.Nat.{mul-le-mul-right}
 use native.Mathlib.Omega.{arith}
-use Prim.Native.Nat.{ℕ, _-_, _*_, _≤_, _<_}
-use lib.ListN.{drop}
+use Prim.Native.Nat.{_+_, _-_, _≤_, _<_}
 use borrow.Author.Needs.{needs}
 use Rattle.columns.specs.Rows.{Columns}
-use Rattle.columns.proofs.ColumnLaws.{columns-empty, columns-as, columns-join, columns-rows, columns-list}
+use Rattle.columns.proofs.ColumnLaws.{columns-empty, columns-as, columns-join, columns-rows}
 use Rattle.points.specs.Arrays.{numeratorFrom}
 use Rattle.blocks.proofs.EntryLaws.{bases-of, all-ready, all-points}
-use Rattle.blocks.proofs.RowLaws.{points-at-rows}
 use Rattle.blocks.proofs.fill_by_tables.Statement.{statement}
 use Rattle.blocks.proofs.fill_by_tables.Tie as tie
 
 abbrev Inv-loop : tie.InvT-loop
-Inv-loop out₀ family axes bases directions n k images tables sizes row₀ out row = (row ≤ k) × Columns (numeratorFrom family bases directions n) 0 row axes axes out₀ out
+Inv-loop out₀ lead family axes bases directions n k images tables sizes row₀ out row = (row ≤ k) × Columns (numeratorFrom family bases directions n) 0 row (lead + axes) lead axes out₀ out
 
 abbrev μ-loop : tie.MeasureT-loop
-μ-loop out₀ family axes bases directions n k images tables sizes row₀ out row = k - row
+μ-loop out₀ lead family axes bases directions n k images tables sizes row₀ out row = k - row
 
 -- a chunk is not empty
 further : (c : tie.After-least Inv-loop μ-loop) → c .before .before .loop .row < c .least .result
@@ -36,7 +32,7 @@ make-all-tables-requires c κs =
     (bases-of (s .pre .0) (s .pre .4), search needs, search needs)
 
 loop-holds : tie.Need-loop-holds Inv-loop μ-loop
-loop-holds c = (omega arith, columns-empty _ _ _)
+loop-holds c = (omega arith, columns-empty _ _ _ _ _ _)
 
 add-least : tie.Need-add-least Inv-loop μ-loop
 add-least c = omega arith
@@ -62,9 +58,10 @@ table-rows-requires c κs =
       (s .pre .0 .few, s .pre .0 .bases-long, search needs, search needs, search needs),
       (
         all-ready (c .before .before .before .before .before .before .before .before .before .make-all-tables .ensures),
+        s .pre .1,
         omega (arith, e .1),
         omega (arith, further (c .before .before .before .before)),
-        omega (arith, l .inv .1 .same-length, mul-le-mul-right {m = c .before .before .before .before .least .result} {n = a .k} (a .axes) (e .1)),
+        omega (arith, l .inv .1 .same-length, mul-le-mul-right {m = c .before .before .before .before .least .result} {n = a .k} (a .lead + a .axes) (e .1)),
       ),
     )
 
@@ -80,17 +77,13 @@ loop-again c =
     let a = s .args in
     let f = numeratorFrom (a .family) (a .bases .now) (a .directions .now) (a .n) in
     let rows = columns-as (c .before .before .table-rows .ensures) f (all-points made (s .pre .4) (a .directions .now) (a .n)) in
-    (t .least .ensures .1, columns-join (l .inv .1) rows (omega arith) (omega (arith, further t)))
+    (t .least .ensures .1, columns-join (l .inv .1) rows (omega arith) (omega (arith, further t)) (omega arith))
 
 same-length : tie.Need-same-length Inv-loop μ-loop
 same-length c = c .before .loop .inv .1 .same-length
 
 returns : tie.Need-returns Inv-loop μ-loop
-returns c =
-    let a = c .before .before .before .before .before .before .before .before .before .before .args in
-    let l = c .before .loop in
-    columns-list (numeratorFrom (a .family) (a .bases .now) (a .directions .now) (a .n)) (a .axes) (a .k) (a .out .now) (l .out) (columns-rows (l .inv .1) (omega arith)) (omega arith) (omega arith)
-    ∙ ap (λ (x : List ℕ). x ++ drop (a .k * a .axes) (a .out .now)) (points-at-rows (a .family) (a .axes) (a .bases .now) (a .directions .now) (a .n) (a .k))
+returns c = columns-rows (c .before .loop .inv .1) (omega arith)
 
 pub fill-by-tables-spec : {M : Type 1} → statement M
 fill-by-tables-spec =

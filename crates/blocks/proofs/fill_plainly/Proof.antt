@@ -1,29 +1,25 @@
--- `blocks::fill_plainly` meets its contract: the first i rows are written, and rows of numerators are the points. Assumes nothing.
-use mathlib.Core.Path.{ap, _∙_}
-use mathlib.Core.List.{List, _++_}
+-- `blocks::fill_plainly` meets its contract: the points of the first i rows are written. Assumes nothing.
 use native.Mathlib.Nat.{mul-le-mul-right}
 use native.Mathlib.Omega.{arith}
-use Prim.Native.Nat.{ℕ, _-_, _*_, _≤_, _<_}
-use lib.ListN.{drop}
+use Prim.Native.Nat.{_+_, _-_, _≤_, _<_}
 use Rattle.columns.specs.Rows.{Columns}
-use Rattle.columns.proofs.ColumnLaws.{columns-empty, columns-join, columns-rows, columns-list}
+use Rattle.columns.proofs.ColumnLaws.{columns-empty, columns-join, columns-rows}
 use Rattle.points.specs.Arrays.{numeratorFrom}
-use Rattle.blocks.proofs.RowLaws.{points-at-rows}
 use Rattle.blocks.proofs.fill_plainly.Statement.{statement}
 use Rattle.blocks.proofs.fill_plainly.Tie as tie
 
 abbrev Inv-loop : tie.InvT-loop
-Inv-loop out₀ family axes bases directions n k i₀ out i = (i ≤ k) × Columns (numeratorFrom family bases directions n) 0 i axes axes out₀ out
+Inv-loop out₀ lead family axes bases directions n k i₀ out i = (i ≤ k) × Columns (numeratorFrom family bases directions n) 0 i (lead + axes) lead axes out₀ out
 
 abbrev μ-loop : tie.MeasureT-loop
-μ-loop out₀ family axes bases directions n k i₀ out i = k - i
+μ-loop out₀ lead family axes bases directions n k i₀ out i = k - i
 
 -- a chunk is not empty
 further : (c : tie.After-least Inv-loop μ-loop) → c .before .before .loop .i < c .least .result
 further c = c .least .ensures .2 _ (omega arith) (omega arith)
 
 loop-holds : tie.Need-loop-holds Inv-loop μ-loop
-loop-holds c = (omega arith, columns-empty _ _ _)
+loop-holds c = (omega arith, columns-empty _ _ _ _ _ _)
 
 add-least : tie.Need-add-least Inv-loop μ-loop
 add-least c = omega arith
@@ -37,7 +33,7 @@ fill-rows-requires c κs =
     let a = s .args in
     let l = c .before .before .before .loop in
     let e = c .before .least .ensures in
-    (s .pre .0, omega (arith, e .1), omega (arith, further (c .before)), omega (arith, l .inv .1 .same-length, mul-le-mul-right {m = c .before .least .result} {n = a .k} (a .axes) (e .1)))
+    (s .pre .0, s .pre .1, omega (arith, e .1), omega (arith, further (c .before)), omega (arith, l .inv .1 .same-length, mul-le-mul-right {m = c .before .least .result} {n = a .k} (a .lead + a .axes) (e .1)))
 
 loop-less : tie.Need-loop-less Inv-loop μ-loop
 loop-less c = omega (arith, further (c .before .before .before .before), c .before .before .before .before .least .ensures .1)
@@ -45,17 +41,13 @@ loop-less c = omega (arith, further (c .before .before .before .before), c .befo
 loop-again : tie.Need-loop-again Inv-loop μ-loop
 loop-again c =
     let l = c .before .before .before .before .before .before .loop in
-    (c .before .before .before .before .least .ensures .1, columns-join (l .inv .1) (c .before .before .fill-rows .ensures) (omega arith) (omega (arith, further (c .before .before .before .before))))
+    (c .before .before .before .before .least .ensures .1, columns-join (l .inv .1) (c .before .before .fill-rows .ensures) (omega arith) (omega (arith, further (c .before .before .before .before))) (omega arith))
 
 same-length : tie.Need-same-length Inv-loop μ-loop
 same-length c = c .before .loop .inv .1 .same-length
 
 returns : tie.Need-returns Inv-loop μ-loop
-returns c =
-    let a = c .before .before .before .before .before .args in
-    let l = c .before .loop in
-    columns-list (numeratorFrom (a .family) (a .bases .now) (a .directions .now) (a .n)) (a .axes) (a .k) (a .out .now) (l .out) (columns-rows (l .inv .1) (omega arith)) (omega arith) (omega arith)
-    ∙ ap (λ (x : List ℕ). x ++ drop (a .k * a .axes) (a .out .now)) (points-at-rows (a .family) (a .axes) (a .bases .now) (a .directions .now) (a .n) (a .k))
+returns c = columns-rows (c .before .loop .inv .1) (omega arith)
 
 pub fill-plainly-spec : {M : Type 1} → statement M
 fill-plainly-spec =

@@ -1,6 +1,6 @@
 -- `blocks::fill_rows` meets its contract: the columns of the first i axes are written. Assumes nothing.
 use native.Mathlib.Omega.{arith}
-use Prim.Native.Nat.{_-_, _≤_}
+use Prim.Native.Nat.{_+_, _-_, _≤_}
 use Rattle.columns.specs.Rows.{Columns}
 use Rattle.columns.proofs.ColumnLaws.{columns-none, columns-more, columns-to}
 use Rattle.points.specs.Arrays.{numeratorFrom}
@@ -9,13 +9,19 @@ use Rattle.blocks.proofs.fill_rows.Statement.{statement}
 use Rattle.blocks.proofs.fill_rows.Tie as tie
 
 abbrev Inv-loop : tie.InvT-loop
-Inv-loop family axes bases directions n lo hi out₀ i₀ out i = (i ≤ axes) × Columns (numeratorFrom family bases directions n) lo hi axes i out₀ out
+Inv-loop family axes bases directions n lo hi out₀ lead s i₀ out i = (i ≤ axes) × Columns (numeratorFrom family bases directions n) lo hi (lead + axes) lead i out₀ out
 
 abbrev μ-loop : tie.MeasureT-loop
-μ-loop family axes bases directions n lo hi out₀ i₀ out i = axes - i
+μ-loop family axes bases directions n lo hi out₀ lead s i₀ out i = axes - i
+
+add-s : tie.Need-add-s Inv-loop μ-loop
+add-s c = omega (arith, c .before .before .before .pre .0 .few)
 
 loop-holds : tie.Need-loop-holds Inv-loop μ-loop
-loop-holds c = (omega arith, columns-none _ _ _ _ _)
+loop-holds c = (omega arith, columns-none _ _ _ _ _ _)
+
+add-fill-column : tie.Need-add-fill-column Inv-loop μ-loop
+add-fill-column c = omega (arith, c .before .before .before .before .before .pre .0 .few)
 
 fill-column-requires : tie.Need-fill-column-requires Inv-loop μ-loop
 fill-column-requires c κs =
@@ -44,7 +50,9 @@ fill-rows-spec =
     (tie.spec
     Inv-loop
     μ-loop
+    add-s
     loop-holds
+    add-fill-column
     fill-column-requires
     add-i
     loop-less

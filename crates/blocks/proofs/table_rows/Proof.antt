@@ -13,10 +13,10 @@ use Rattle.blocks.proofs.table_rows.Statement.{statement}
 use Rattle.blocks.proofs.table_rows.Tie as tie
 
 abbrev Inv-loop : tie.InvT-loop
-Inv-loop axes bases images tables sizes n lo hi out₀ i₀ out i = (i ≤ axes) × Columns (tabledAt bases images n) lo hi axes i out₀ out
+Inv-loop axes bases images tables sizes n lo hi out₀ lead s i₀ out i = (i ≤ axes) × Columns (tabledAt bases images n) lo hi (lead + axes) lead i out₀ out
 
 abbrev μ-loop : tie.MeasureT-loop
-μ-loop axes bases images tables sizes n lo hi out₀ i₀ out i = axes - i
+μ-loop axes bases images tables sizes n lo hi out₀ lead s i₀ out i = axes - i
 
 -- the tables of the turn's axis, as the code takes them
 ready : (c : tie.In-loop Inv-loop μ-loop) →
@@ -30,8 +30,11 @@ ready c =
     let k : 256 * i + 256 - 256 * i ≡ 256 = omega arith in
     rw k (s .pre .1 .0 .at i (omega arith))
 
+add-s : tie.Need-add-s Inv-loop μ-loop
+add-s c = omega arith
+
 loop-holds : tie.Need-loop-holds Inv-loop μ-loop
-loop-holds c = (omega arith, columns-none _ _ _ _ _)
+loop-holds c = (omega arith, columns-none _ _ _ _ _ _)
 
 mul-first : tie.Need-mul-first Inv-loop μ-loop
 mul-first c = omega arith
@@ -72,6 +75,9 @@ part-fill-tiles-start-2 c = omega arith
 part-fill-tiles-end-2 : tie.Need-part-fill-tiles-end-2 Inv-loop μ-loop
 part-fill-tiles-end-2 c = omega arith
 
+add-fill-tiles : tie.Need-add-fill-tiles Inv-loop μ-loop
+add-fill-tiles c = omega arith
+
 fill-tiles-requires : tie.Need-fill-tiles-requires Inv-loop μ-loop
 fill-tiles-requires c κs =
     let l = c .before .before .before .before .before .before .loop in
@@ -107,6 +113,7 @@ table-rows-spec =
     (tie.spec
     Inv-loop
     μ-loop
+    add-s
     loop-holds
     mul-first
     add-last
@@ -121,6 +128,7 @@ table-rows-spec =
     sub-fill-tiles-2
     part-fill-tiles-start-2
     part-fill-tiles-end-2
+    add-fill-tiles
     fill-tiles-requires
     add-i
     loop-less

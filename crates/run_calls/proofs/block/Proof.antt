@@ -1,137 +1,19 @@
--- One case law a return; the points are filled from the run's next index on, and the state is made anew. Assumes nothing.
-use mathlib.Core.Path.{_≡_, sym, ap, _∙_}
-use mathlib.Core.Bool.{true, false}
-use mathlib.Core.List.{_++_}
-use Prim.Native.Nat.{ℕ, _+_, _*_, _^_, _≤_}
-use native.Mathlib.Omega.{arith}
+-- `run_calls::block` meets its contract: rows without leading words are its points. Assumes nothing.
 use borrow.Author.Needs.{needs}
-use lib.ListN.{length, drop}
-use Rattle.points.specs.Run.{runPoints}
-use Rattle.state.specs.State.{made, planIn, runIn, genuine}
-use Rattle.state.specs.declared.Sampler.{Sampler}
-use Rattle.calls.specs.declared.Blocked.{Blocked}
-use Rattle.calls.proofs.CaseLaws.{foreign-of, known-of, run-foreign, run-spent, run-no-room, run-clear, block-refused, block-done}
-use Rattle.calls.proofs.PointLaws.{axes-few, known-arrays, known-run, next-of, points-put, block-fits}
+use Rattle.calls.proofs.RowLaws.{rows-block}
 use Rattle.run_calls.proofs.block.Statement.{statement}
 use Rattle.run_calls.proofs.block.Tie as tie
 
-is-genuine-requires : tie.Need-is-genuine-requires
-is-genuine-requires c κs = search needs
-
--- the state is tested at the start
-abbrev start : tie.After-is-genuine → tie.Start
-start c = c .before .before .before .before .before .before .before
-
-foreign : (c : tie.Then1) → genuine (start (c .before) .args .t1) ≡ false
-foreign c = foreign-of _ _ (c .before .is-genuine .ensures) (c .if1 .taken)
-
-known : (c : tie.Else1) → genuine (start (c .before) .args .t1) ≡ true
-known c = known-of _ _ (c .before .is-genuine .ensures) (c .if1 .left)
-
-no-block-requires : tie.Need-no-block-requires
-no-block-requires c κs = tt
-
-no-block-requires-2 : tie.Need-no-block-requires-2
-no-block-requires-2 c κs = tt
-
-no-block-requires-3 : tie.Need-no-block-requires-3
-no-block-requires-3 c κs = tt
-
-returns : tie.Need-returns
-returns c =
-    let a = start (c .before .before) .args in
-    let w = block-refused (a .t1) (a .out .now) 14 (run-foreign (a .t1) (a .out .now) (foreign (c .before))) in (c .no-block .ensures ∙ sym (w .0), sym (w .1))
-
-returns-2 : tie.Need-returns-2
-returns-2 c =
-    let k = c .before .before in
-    let a = start (k .before) .args in
-    let w = block-refused (a .t1) (a .out .now) 11 (run-spent (a .t1) (a .out .now) (known k) (omega arith)) in (c .no-block2 .ensures ∙ sym (w .0), sym (w .1))
-
-returns-3 : tie.Need-returns-3
-returns-3 c =
-    let k = c .before .before .before in
-    let a = start (k .before) .args in
-    let w = block-refused (a .t1) (a .out .now) 12 (run-no-room (a .t1) (a .out .now) (known k) (omega arith) (omega arith)) in
-    (c .no-block3 .ensures ∙ sym (w .0), sym (w .1))
-
--- where the points are written, the state is genuine
-abbrev clear : tie.After-block-size → tie.Else1
-clear c = c .before .before .before
-
-sub-block-size : tie.Need-sub-block-size
-sub-block-size c = omega arith
-
-block-size-requires : tie.Need-block-size-requires
-block-size-requires c κs = axes-few _ (known (c .before .before)) .0
-
-add-fill : tie.Need-add-fill
-add-fill c = omega (arith, known-run _ (known (clear (c .before .before .before .before .before .before))))
-
--- the block fits into what is left of the run, and into the buffer
-sized : (c : tie.After-block-size) → let a = start (clear c .before) .args in
-    let k = c .block-size .result in
-    (a .t1 .start + a .t1 .taken + k ≤ 2 ^ 32) × (a .t1 .taken + k ≤ a .t1 .count) × (k * a .t1 .axes ≤ length (a .out .now))
-sized c =
-    let f = block-fits _ _ _ _ (c .block-size .ensures) in
-    let r = known-run _ (known (clear c)) in
-    (omega (arith, f .0, r), omega (arith, f .0, r), omega (arith, f .1))
-
-fill-requires : tie.Need-fill-requires
-fill-requires c κs =
-    let p = c .before .before .before .before .before .before in
-    let k = known (clear p) in
-    let f = sized p in
-    (known-arrays _ k, axes-few _ k .0, omega (arith, f .0), omega (arith, f .2))
-
-add-taken : tie.Need-add-taken
-add-taken c = let p = c .before .before .before .before .before .before .before .before .before in omega (arith, sized p .1, known-run _ (known (clear p)))
-
-next-point-requires : tie.Need-next-point-requires
-next-point-requires c κs = let k = known (clear (c .before .before .before .before .before .before .before .before .before .before .before .before .before .before)) in (known-arrays _ k, known-run _ k .0)
-
-with-run-requires : tie.Need-with-run-requires
-with-run-requires c κs =
-    let p = c .before .before .before .before .before .before .before .before .before .before .before .before .before .before .before in
-    let a = start (clear p .before) .args in
-    (known (clear p), c .next-point .ensures ∙ next-of (a .t1) (known (clear p)) (runIn (a .t1)) (a .t1 .taken + p .block-size .result))
+block-rows-requires : tie.Need-block-rows-requires
+block-rows-requires c κs = search needs
 
 same-length : tie.Need-same-length
 same-length c = search needs
 
--- the answer with the state that the code made, and how many points it wrote
-answer : (k k′ : ℕ) (t t′ : Sampler) → k ≡ k′ → t ≡ t′ → _≡_ {A = Blocked} (record { code = 0; points = k; state = t }) (record { code = 0; points = k′; state = t′ })
-answer k k′ t t′ e f = λ j. record { code = 0; points = e j; state = f j }
-
-returns-4 : tie.Need-returns-4
-returns-4 c =
-    let p = c .before .before .before .before .before .before .before .before .before .before .before .before .before .before .before .before in
-    let s = known (clear p) in
-    let a = start (clear p .before) .args in
-    let k = p .block-size .ensures in
-    let w = block-done (a .t1) (a .out .now) (run-clear (a .t1) (a .out .now) s (omega (arith, p .before .before .if2 .left)) (omega (arith, p .before .if3 .left))) in (
-      answer _ _ _ _ k (c .with-run .ensures ∙ ap (λ (j : ℕ). made (planIn (a .t1)) (runIn (a .t1)) (a .t1 .taken + j)) k) ∙ sym (w .0),
-      points-put (a .t1) s (a .out .now) _ (a .t1 .taken) _ (c .before .before .before .before .before .before .before .before .before .fill .ensures)
-          ∙ ap (λ (j : ℕ). runPoints (planIn (a .t1)) (runIn (a .t1)) (a .t1 .taken) j ++ drop (j * a .t1 .axes) (a .out .now)) k ∙ sym (w .1),
-    )
+returns : tie.Need-returns
+returns c =
+    let e = c .before .before .block-rows .ensures in
+    rows-block _ _ _ _ (e .0) (e .1)
 
 pub block-spec : {M : Type 1} → statement M
-block-spec =
-    tie.close
-    (tie.spec
-    is-genuine-requires
-    no-block-requires
-    returns
-    no-block-requires-2
-    returns-2
-    no-block-requires-3
-    returns-3
-    sub-block-size
-    block-size-requires
-    add-fill
-    fill-requires
-    add-taken
-    next-point-requires
-    with-run-requires
-    same-length
-    returns-4)
+block-spec = tie.close (tie.spec block-rows-requires same-length returns)

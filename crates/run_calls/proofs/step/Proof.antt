@@ -37,19 +37,19 @@ refused-requires-3 c κs = tt
 returns : tie.Need-returns
 returns c =
     let a = start (c .before .before) .args in
-    let w = step-refused (a .t1) (a .out .now) 14 (run-foreign (a .t1) (a .out .now) (foreign (c .before))) in (c .refused .ensures ∙ sym (w .0), sym (w .1))
+    let w = step-refused (a .t1) (a .out .now) 14 (run-foreign (a .t1) (a .out .now) _ (foreign (c .before))) in (c .refused .ensures ∙ sym (w .0), sym (w .1))
 
 returns-2 : tie.Need-returns-2
 returns-2 c =
     let k = c .before .before in
     let a = start (k .before) .args in
-    let w = step-refused (a .t1) (a .out .now) 11 (run-spent (a .t1) (a .out .now) (known k) (omega arith)) in (c .refused2 .ensures ∙ sym (w .0), sym (w .1))
+    let w = step-refused (a .t1) (a .out .now) 11 (run-spent (a .t1) (a .out .now) _ (known k) (omega arith)) in (c .refused2 .ensures ∙ sym (w .0), sym (w .1))
 
 returns-3 : tie.Need-returns-3
 returns-3 c =
     let k = c .before .before .before in
     let a = start (k .before) .args in
-    let w = step-refused (a .t1) (a .out .now) 12 (run-no-room (a .t1) (a .out .now) (known k) (omega arith) (omega arith)) in
+    let w = step-refused (a .t1) (a .out .now) 12 (run-no-room (a .t1) (a .out .now) _ (known k) (omega arith) (omega arith)) in
     (c .refused3 .ensures ∙ sym (w .0), sym (w .1))
 
 -- where the point is written, the state is genuine
@@ -96,7 +96,7 @@ returns-4 c =
     let p = c .before .before .before .before .before .before .before .before .before .before .before in
     let k = known (clear p) in
     let a = start (clear p .before) .args in
-    let w = step-done (a .t1) (a .out .now) (run-clear (a .t1) (a .out .now) k (omega arith) (omega arith)) in (
+    let w = step-done (a .t1) (a .out .now) (run-clear (a .t1) (a .out .now) _ k (omega arith) (omega arith)) in (
       ap (moved 0) (c .with-run .ensures) ∙ sym (w .0),
       step-put (a .t1) k (a .out .now) _ _ (a .t1 .taken) (known-next (a .t1) k (omega arith)) (c .before .before .before .before .before .before .before .before .before .store .ensures) ∙ sym (w .1),
     )

@@ -19,7 +19,7 @@ abbrev μ-loop : tie.MeasureT-loop
 next : (c : tie.After-bound-factor Inv-loop μ-loop)
     → let a = c .before .before .before .before .before .before .before .args in
     let l = c .before .before .before .loop in
-    (l .p * c .bound-factor .result ≡ bound (baseAt (a .bases .now)) (l .i + 1) (a .n)) × (bound (baseAt (a .bases .now)) (l .i + 1) (a .n) < 2 ^ 64)
+    (l .p * c .bound-factor .result ≡ bound (baseAt (a .bases .now)) (l .i + 1) (a .n)) × (bound (baseAt (a .bases .now)) (l .i + 1) (a .n) < 2 ^ 63)
 next c =
     let s = c .before .before .before .before .before .before .before in
     let a = s .args in

@@ -4,7 +4,7 @@ use mathlib.Core.Bool.{true, false}
 use Prim.Native.Nat.{ℕ}
 use native.Mathlib.Omega.{arith}
 use borrow.Author.Needs.{needs}
-use Rattle.state.specs.State.{genuine}
+use Rattle.state.specs.State.{runIn, genuine}
 use Rattle.calls.proofs.CaseLaws.{foreign-of, known-of}
 use Rattle.calls.proofs.PointLaws.{axes-few, known-arrays, known-run}
 use Rattle.window.specs.Counting.{isWindow}
@@ -40,7 +40,7 @@ returns : tie.Need-returns
 returns c = c .refused .ensures ∙ sym (count-foreign _ _ (foreign (c .before)))
 
 is-window-requires : tie.Need-is-window-requires
-is-window-requires c κs = axes-few _ (known c) .1
+is-window-requires c κs = omega (arith, axes-few _ (known c))
 
 refused-requires-2 : tie.Need-refused-requires-2
 refused-requires-2 c κs = search needs
@@ -71,7 +71,7 @@ returns-3 c =
     let p = c .before .before .before .before .before .before in
     let k = known (taken p .before .before) in
     let a = start (taken p .before .before .before) .args in
-    answer (p .count-inside .ensures ∙ count-walked (a .t1) (a .w .now) k) (c .bound .ensures ∙ bound-known (a .t1) (a .w .now) k (a .t1 .count))
+    answer (p .count-inside .ensures ∙ count-walked (a .t1) (a .w .now) k (runIn (a .t1))) (c .bound .ensures ∙ bound-known (a .t1) (a .w .now) k (a .t1 .count))
     ∙ sym (count-done _ _ k (fits (taken p)))
 
 pub count-spec : {M : Type 1} → statement M

@@ -1,0 +1,3 @@
+-- Laws of points with their numbers in front.
+mod FrontLaws
+mod RowLaws
