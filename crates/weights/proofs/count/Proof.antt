@@ -23,10 +23,16 @@ returns : tie.Need-returns
 returns c = search needs
 
 volume-requires : tie.Need-volume-requires
-volume-requires c κs = ?
+volume-requires c κs =
+    let r = c .before .before .before .counted in
+    let a = r .ensures (omega arith) in
+    (a .cuts, a .window)
 
 put-row-requires : tie.Need-put-row-requires
-put-row-requires c κs = ?
+put-row-requires c κs =
+    let r = c .before .before .before .before .before .counted in
+    let a = r .ensures (omega arith) in
+    (a .inside, a .few)
 
 same-length-2 : tie.Need-same-length-2
 same-length-2 c = search needs
