@@ -23,10 +23,10 @@ pub fn make_day_set(s: Sampler, size: u64) -> DayMoved
             set: day_set::blank_day_set(),
         };
     }
-    let run = r.state;
+    let opened = r.state;
     DayMoved {
         code: 0,
-        set: DaySet { run },
+        set: DaySet { run: opened },
     }
 }
 
@@ -76,16 +76,17 @@ pub fn day_step(d: DaySet, out: &mut [u64]) -> DayMoved
             set: d,
         };
     }
-    let n = s.taken;
+    let next = s.taken;
     let first = columns::least(1, out.len());
     let r = run_calls::step(s, &mut out[first..]);
-    put_number(r.code, n, out);
-    let run = r.state;
+    put_number(r.code, next, out);
+    let stepped = r.state;
     DayMoved {
         code: r.code,
-        set: DaySet { run },
+        set: DaySet { run: stepped },
     }
 }
+
 // Puts the numbers from `n` on into the first words of `k` rows, where the points of so many axes were written behind them.
 fn put_numbers(code: u64, n: u64, k: usize, axes: usize, out: &mut [u64])
     requires { ⌜ (code ≡ 0 → (axes ≤ 6) × (k * (1 + axes) ≤ length (now out)) × (n + k ≤ 2 ^ 32)) ⌝ }
@@ -110,13 +111,13 @@ pub fn day_block(d: DaySet, out: &mut [u64]) -> DayBlocked
         };
     }
     let axes = s.axes;
-    let n = s.taken;
+    let first = s.taken;
     let r = run_calls::block_rows(s, 1, out);
-    put_numbers(r.code, n, r.points as usize, axes, out);
-    let run = r.state;
+    put_numbers(r.code, first, r.points as usize, axes, out);
+    let filled = r.state;
     DayBlocked {
         code: r.code,
         points: r.points,
-        set: DaySet { run },
+        set: DaySet { run: filled },
     }
 }
