@@ -5,26 +5,19 @@ use crate::run::two_numbers;
 ghost use Prim.Native.Nat.{_≤_};
 ghost use lib.ListN.{length};
 
-// Whether a number is 1 to 6.
-fn is_axis(x: u64) -> bool {
-    if x == 0 {
-        return false;
-    }
-    x <= 6
-}
-
 // The axes X and Y in force, with the time of day along axis 1 if `is_time`.
 fn put_axes(j: Job, out: &mut [u8], x: u64, y: u64, is_time: bool) -> Job {
-    if !is_axis(x) {
-        return error(j, out, b"expected X and Y to be 1 to 6");
+    if 6 < x {
+        return error(j, out, b"expected X and Y to be at most 6");
     }
-    if !is_axis(y) {
-        return error(j, out, b"expected X and Y to be 1 to 6");
+    if 6 < y {
+        return error(j, out, b"expected X and Y to be at most 6");
     }
     if is_time && x != 1 && y != 1 {
         return error(j, out, b"expected X or Y to be 1, the axis of the time");
     }
     let mut next = j;
+    next.has_axes = true;
     next.x = x;
     next.y = y;
     next.is_time = is_time;
@@ -47,7 +40,7 @@ pub fn axes_line(j: Job, out: &mut [u8], text: &[u8], from: usize) -> Job
     requires { ⌜ from ≤ length (now text) ⌝ }
 {
     let mut none = j;
-    none.x = 0;
+    none.has_axes = false;
     let words = words::count(text, from);
     if words != 2 && words != 3 {
         return error(none, out, b"expected axes X Y or axes X Y time");

@@ -1,11 +1,14 @@
-// A job text, line by line: what the programs share. A line `plan ..` puts a plan in force, a line `run START COUNT` opens a run of it, and a
-// line `axes X Y` names two axes to draw; the state that they leave, and the errors, which are lines of the output.
+// A job text, line by line: what the programs share. A line `plan ..` puts a plan in force, a line `run START COUNT` opens a run of it, a line
+// `day N` makes a day set of it in the place of a run, and a line `axes X Y` names two axes to draw; the state that they leave, and the errors,
+// which are lines of the output.
 mod axes;
+mod day;
 mod plans;
 mod report;
 mod run;
 
 pub use axes::axes_line;
+pub use day::day_line;
 use lines::Lines;
 pub use plans::plan_line;
 pub use report::end;
@@ -21,9 +24,9 @@ ghost use Prim.Native.Nat.{_<_, _≤_};
 ghost use lib.ListN.{length};
 
 // What the lines so far leave: the input and the output; whether errors are texts of a picture; the number of the line at hand, how many lines
-// were in error, and whether the error at hand is not shown; whether a plan and a run are in force, the sampler that has them, and the number of
-// the run's line; the axes to draw, from 1, or 0 where none are given, whether the time of day goes along axis 1, and the number of the line
-// that says so.
+// were in error, and whether the error at hand is not shown; whether a plan is in force, whether a run or a day set is, and whether it is a day
+// set, the sampler that has them, and the number of the run's or the day set's line; whether axes to draw are given, their numbers, where 0 is the
+// leading axis of a day set, whether the time of day goes along axis 1, and the number of the line that says so.
 pub struct Job {
     pub lines: Lines,
     pub is_picture: bool,
@@ -32,8 +35,10 @@ pub struct Job {
     pub is_quiet: bool,
     pub has_plan: bool,
     pub has_run: bool,
+    pub is_day: bool,
     pub state: Sampler,
     pub run_at: u64,
+    pub has_axes: bool,
     pub x: u64,
     pub y: u64,
     pub is_time: bool,
@@ -50,8 +55,10 @@ pub fn new(is_picture: bool) -> Job {
         is_quiet: false,
         has_plan: false,
         has_run: false,
+        is_day: false,
         state: sampler::blank_state(),
         run_at: 0,
+        has_axes: false,
         x: 0,
         y: 0,
         is_time: false,
@@ -80,7 +87,7 @@ pub fn turns_left(j: Job, turns: u64) -> u64
     if j.lines.is_over { 0 } else { turns - 1 }
 }
 
-// A line of which only the first 1,024 bytes were kept. If it was to give a plan, a run or axes, that is not in force.
+// A line of which only the first 1,024 bytes were kept. If it was to give a plan, a run, a day set or axes, that is not in force.
 pub fn too_long(j: Job, out: &mut [u8], text: &[u8]) -> Job {
     let w = words::find(text, 0);
     let start = w.start;
@@ -94,8 +101,11 @@ pub fn too_long(j: Job, out: &mut [u8], text: &[u8]) -> Job {
     if check::same(key, b"run") {
         next.has_run = false;
     }
+    if check::same(key, b"day") {
+        next.has_run = false;
+    }
     if check::same(key, b"axes") {
-        next.x = 0;
+        next.has_axes = false;
     }
     error(
         next,

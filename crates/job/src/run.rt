@@ -25,7 +25,7 @@ fn expected(j: Job, out: &mut [u8], name: &[u8]) -> Job {
 }
 
 // Not the number that was expected.
-fn number_error(j: Job, out: &mut [u8], n: Number, name: &[u8]) -> Job {
+pub fn number_error(j: Job, out: &mut [u8], n: Number, name: &[u8]) -> Job {
     let begun = expected(j, out, name);
     end_expected(begun, out, n)
 }
@@ -44,6 +44,7 @@ fn open(j: Job, out: &mut [u8], start: u64, count: u64) -> Job {
     let t = r.state;
     let mut next = j;
     next.has_run = true;
+    next.is_day = false;
     next.run_at = j.line;
     next.state = t;
     next

@@ -1,4 +1,4 @@
-// A job text of a plan, a run, two axes and windows, and the picture of the run's points on these axes, with the windows as frames.
+// A job text of a plan, a run or a day set, two axes and windows, and the picture of its points on these axes, with the windows as frames.
 use job::Job;
 use lines::Lines;
 use svg::Drawing;
@@ -13,7 +13,7 @@ struct Wanted {
     more_at: u64,
 }
 
-// No window is kept of a new plan or run.
+// No window is kept of a new plan, run or day set.
 fn afresh(j: Job) -> Wanted
     ensures { λ r. ⌜ r .windows ≡ 0 ⌝ }
 {
@@ -30,10 +30,10 @@ fn first(at: u64, line: u64) -> u64 {
 }
 
 // Keeps a window in its place: its cuts, and its name with zeros after it.
-fn keep(i: usize, cuts: [u64; 12], name: &[u8], kept: &mut [u64], names: &mut [u8])
-    requires { ⌜ (i ≤ 31) × (384 ≤ length (now kept)) × (1024 ≤ length (now names)) × (length (now name) ≤ 32) ⌝ }
+fn keep(i: usize, cuts: [u64; 14], name: &[u8], kept: &mut [u64], names: &mut [u8])
+    requires { ⌜ (i ≤ 31) × (448 ≤ length (now kept)) × (1024 ≤ length (now names)) × (length (now name) ≤ 32) ⌝ }
 {
-    bits::store(kept, 12 * i, &cuts);
+    bits::store(kept, 14 * i, &cuts);
     let zeros = [0u8; 32];
     text::put(names, 32 * i, &zeros);
     text::put(names, 32 * i, name);
@@ -48,7 +48,7 @@ fn window_line(
     kept: &mut [u64],
     names: &mut [u8],
 ) -> Wanted
-    requires { ⌜ (p .windows ≤ 32) × (from ≤ length (now text)) × (384 ≤ length (now kept)) × (1024 ≤ length (now names)) ⌝ }
+    requires { ⌜ (p .windows ≤ 32) × (from ≤ length (now text)) × (448 ≤ length (now kept)) × (1024 ≤ length (now names)) ⌝ }
     ensures { λ r. ⌜ r .windows ≤ 32 ⌝ }
 {
     let windows = p.windows;
@@ -82,7 +82,7 @@ fn window_line(
 
 // Does what a line's text asks for.
 fn text_line(p: Wanted, out: &mut [u8], text: &[u8], kept: &mut [u64], names: &mut [u8]) -> Wanted
-    requires { ⌜ (p .windows ≤ 32) × (length (now text) ≤ 1024) × (384 ≤ length (now kept)) × (1024 ≤ length (now names)) ⌝ }
+    requires { ⌜ (p .windows ≤ 32) × (length (now text) ≤ 1024) × (448 ≤ length (now kept)) × (1024 ≤ length (now names)) ⌝ }
     ensures { λ r. ⌜ r .windows ≤ 32 ⌝ }
 {
     let w = words::find(text, 0);
@@ -98,6 +98,9 @@ fn text_line(p: Wanted, out: &mut [u8], text: &[u8], kept: &mut [u64], names: &m
     if check::same(key, b"run") {
         return afresh(job::run_line(p.job, out, text, end));
     }
+    if check::same(key, b"day") {
+        return afresh(job::day_line(p.job, out, text, end));
+    }
     if check::same(key, b"window") {
         return window_line(p, out, text, end, kept, names);
     }
@@ -111,7 +114,7 @@ fn text_line(p: Wanted, out: &mut [u8], text: &[u8], kept: &mut [u64], names: &m
         };
     }
     Wanted {
-        job: job::error(p.job, out, b"expected plan, run, window, axes or #"),
+        job: job::error(p.job, out, b"expected plan, run, day, window, axes or #"),
         windows,
         more_at,
     }
@@ -126,7 +129,7 @@ fn line(
     kept: &mut [u64],
     names: &mut [u8],
 ) -> Wanted
-    requires { ⌜ (p .windows ≤ 32) × (1 ≤ length (now chunk)) × (1024 ≤ length (now held)) × (384 ≤ length (now kept)) × (1024 ≤ length (now names)) ⌝ }
+    requires { ⌜ (p .windows ≤ 32) × (1 ≤ length (now chunk)) × (1024 ≤ length (now held)) × (448 ≤ length (now kept)) × (1024 ≤ length (now names)) ⌝ }
     ensures { λ r. ⌜ r .windows ≤ 32 ⌝ }
 {
     let j = job::read(p.job, chunk, held, out);
@@ -155,7 +158,19 @@ fn line(
     text_line(now, out, lines::text(l, held), kept, names)
 }
 
-// The job, and an error of the run's line if the run has too many points.
+// Too many points to draw.
+fn too_many(j: Job, out: &mut [u8]) -> Job {
+    if j.is_day {
+        return job::error(
+            j,
+            out,
+            b"expected a day set of at most 100000 points to draw",
+        );
+    }
+    job::error(j, out, b"expected a run of at most 100000 points to draw")
+}
+
+// The job, and an error of the run's or the day set's line if there are too many points.
 fn sized(j: Job, out: &mut [u8]) -> Job {
     let s = j.state;
     if s.count <= 100000 {
@@ -163,7 +178,7 @@ fn sized(j: Job, out: &mut [u8]) -> Job {
     }
     let mut at = j;
     at.line = j.run_at;
-    let mut next = job::error(at, out, b"expected a run of at most 100000 points to draw");
+    let mut next = too_many(at, out);
     next.line = j.line;
     next
 }
@@ -181,10 +196,32 @@ fn no_axes(j: Job, out: &mut [u8], axes: u64) -> Job {
     )
 }
 
-// The job, and an error if there are no axes to draw, or the plan has no such axes.
-fn with_axes(j: Job, out: &mut [u8]) -> Job {
+// Axis 0, but no day set.
+fn no_leading(j: Job, out: &mut [u8]) -> Job {
+    let mut at = j;
+    at.line = j.axes_at;
+    job::error(
+        at,
+        out,
+        b"expected X and Y to be 1 or more: the plan's axes count from 1, and 0 is the leading axis of a day set",
+    )
+}
+
+// Whether axis 0 is to be drawn.
+fn has_leading(j: Job) -> bool {
     if j.x == 0 {
+        return true;
+    }
+    j.y == 0
+}
+
+// The job, and an error if there are no axes to draw, or the plan or the day set has no such axes.
+fn with_axes(j: Job, out: &mut [u8]) -> Job {
+    if !j.has_axes {
         return job::error(j, out, b"expected axes X Y to draw");
+    }
+    if !j.is_day && has_leading(j) {
+        return no_leading(j, out);
     }
     let s = j.state;
     let axes = s.axes as u64;
@@ -203,7 +240,7 @@ fn checked(j: Job, out: &mut [u8]) -> Job {
         return j;
     }
     if !j.has_run {
-        return job::error(j, out, b"expected a plan and a run to draw");
+        return job::error(j, out, b"expected a plan and a run or a day set to draw");
     }
     with_axes(sized(j, out), out)
 }
@@ -224,7 +261,7 @@ fn remark(l: Lines, out: &mut [u8], more_at: u64) -> Lines {
 
 // Draws what the lines ask for; if one was in error, nothing beside the errors.
 fn draw(p: Wanted, out: &mut [u8], kept: &[u64], names: &[u8]) -> Lines
-    requires { ⌜ (p .windows ≤ 32) × (384 ≤ length (now kept)) × (1024 ≤ length (now names)) ⌝ }
+    requires { ⌜ (p .windows ≤ 32) × (448 ≤ length (now kept)) × (1024 ≤ length (now names)) ⌝ }
 {
     let j = checked(p.job, out);
     if j.errors != 0 {
@@ -234,6 +271,7 @@ fn draw(p: Wanted, out: &mut [u8], kept: &[u64], names: &[u8]) -> Lines
     let s = j.state;
     let d = Drawing {
         state: s,
+        is_day: j.is_day,
         x: j.x,
         y: j.y,
         is_time: j.is_time,
@@ -245,18 +283,18 @@ fn draw(p: Wanted, out: &mut [u8], kept: &[u64], names: &[u8]) -> Lines
 
 // At the input's end: draws, and ends the picture.
 fn end(p: Wanted, out: &mut [u8], kept: &[u64], names: &[u8])
-    requires { ⌜ (p .windows ≤ 32) × (384 ≤ length (now kept)) × (1024 ≤ length (now names)) ⌝ }
+    requires { ⌜ (p .windows ≤ 32) × (448 ≤ length (now kept)) × (1024 ≤ length (now names)) ⌝ }
 {
     let drawn = draw(p, out, kept, names);
     lines::finish(svg::tail(drawn, out), out);
 }
 
-// The program `plot`: reads a plan, a run, two axes and windows from standard input, and draws.
+// The program `plot`: reads a plan, a run or a day set, two axes and windows from standard input, and draws.
 pub fn plot() {
     let mut chunk = io::buffer();
     let mut held = [0u8; 1024];
-    let mut out = [0u8; 16384];
-    let mut kept = [0u64; 384];
+    let mut out = [0u8; 16448];
+    let mut kept = [0u64; 448];
     let mut names = [0u8; 1024];
     let mut j = job::new(true);
     j.lines = svg::head(j.lines, &mut out);

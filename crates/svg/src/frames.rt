@@ -1,5 +1,6 @@
 // The windows as frames: rectangles from 0 to the cuts on the two axes drawn.
 use crate::Drawing;
+use crate::place_of;
 use crate::points::place;
 use crate::points::word;
 use lines::Lines;
@@ -17,18 +18,15 @@ fn cut(u: u64, q: u64) -> u64
     place(u, q)
 }
 
-// Where the cut of axis `x`, from 1, lies of a window's u and q of each axis in turn.
-fn cut_of(w: &[u64], x: u64) -> u64
+// Where the cut at a place lies of a window's u and q of each axis in turn.
+fn cut_at(w: &[u64], i: u64) -> u64
     ensures { λ r. ⌜ r ≤ 100000 ⌝ }
 {
-    if x == 0 {
+    if 6 < i {
         return 100000;
     }
-    if 6 < x {
-        return 100000;
-    }
-    let i = 2 * (x - 1) as usize;
-    cut(word(w, i), word(w, i + 1))
+    let k = 2 * i as usize;
+    cut(word(w, k), word(w, k + 1))
 }
 
 // A frame, whose corner is at hundredths of a unit from the left and from the top.
@@ -95,12 +93,12 @@ fn named(l: Lines, out: &mut [u8], left: u64, top: u64, name: &[u8]) -> Lines
 
 // The frame of window `i`.
 fn window(l: Lines, out: &mut [u8], d: Drawing, i: usize, cuts: &[u64], names: &[u8]) -> Lines
-    requires { ⌜ (i < 32) × (384 ≤ length (now cuts)) × (1024 ≤ length (now names)) ⌝ }
+    requires { ⌜ (i < 32) × (448 ≤ length (now cuts)) × (1024 ≤ length (now names)) ⌝ }
 {
-    let from = 12 * i;
-    let to = from + 12;
-    let left = cut_of(&cuts[from..to], d.x);
-    let up = cut_of(&cuts[from..to], d.y);
+    let from = 14 * i;
+    let to = from + 14;
+    let left = cut_at(&cuts[from..to], place_of(d, d.x));
+    let up = cut_at(&cuts[from..to], place_of(d, d.y));
     let begin = 32 * i;
     let end = begin + 32;
     named(l, out, left, 100000 - up, &names[begin..end])
@@ -108,7 +106,7 @@ fn window(l: Lines, out: &mut [u8], d: Drawing, i: usize, cuts: &[u64], names: &
 
 // The frames of all windows.
 pub fn all(l: Lines, out: &mut [u8], d: Drawing, cuts: &[u64], names: &[u8]) -> Lines
-    requires { ⌜ (d .windows ≤ 32) × (384 ≤ length (now cuts)) × (1024 ≤ length (now names)) ⌝ }
+    requires { ⌜ (d .windows ≤ 32) × (448 ≤ length (now cuts)) × (1024 ≤ length (now names)) ⌝ }
 {
     let mut next = l;
     let mut i = 0;

@@ -39,22 +39,34 @@ fn plan(l: Lines, out: &mut [u8], s: Sampler) -> Lines {
     }
 }
 
-// The run.
-fn run(l: Lines, out: &mut [u8], s: Sampler) -> Lines {
+// The size of a day set.
+fn day_set(l: Lines, out: &mut [u8], size: u64) -> Lines {
+    if size == 1 {
+        return put(l, out, b"day set of 1 point");
+    }
+    put_between(l, out, b"day set of ", size, b" points")
+}
+
+// The run, or the day set.
+fn run(l: Lines, out: &mut [u8], d: Drawing) -> Lines {
+    let s = d.state;
+    if d.is_day {
+        return day_set(l, out, s.count);
+    }
     let start = put_between(l, out, b"start ", s.start, b", count ");
     lines::put_number(start, out, s.count)
 }
 
 // The plan and the run, as the picture's title.
-pub fn title(l: Lines, out: &mut [u8], s: Sampler) -> Lines {
-    let begun = plan(put(l, out, b"<title>"), out, s);
+pub fn title(l: Lines, out: &mut [u8], d: Drawing) -> Lines {
+    let begun = plan(put(l, out, b"<title>"), out, d.state);
     let parted = put(begun, out, b", ");
-    end_title(parted, out, s)
+    end_title(parted, out, d)
 }
 
 // The run, and the title's end.
-fn end_title(l: Lines, out: &mut [u8], s: Sampler) -> Lines {
-    let named = run(l, out, s);
+fn end_title(l: Lines, out: &mut [u8], d: Drawing) -> Lines {
+    let named = run(l, out, d);
     put(named, out, b"</title>\n")
 }
 
@@ -70,13 +82,13 @@ fn plan_text(l: Lines, out: &mut [u8], s: Sampler) -> Lines {
 }
 
 // The run above the picture.
-fn run_text(l: Lines, out: &mut [u8], s: Sampler) -> Lines {
+fn run_text(l: Lines, out: &mut [u8], d: Drawing) -> Lines {
     let begun = put(
         l,
         out,
         b"<text x=\"500\" y=\"-14\" text-anchor=\"middle\" fill=\"#222\">",
     );
-    let named = run(begun, out, s);
+    let named = run(begun, out, d);
     put(named, out, b"</text>\n")
 }
 
@@ -127,8 +139,8 @@ pub fn sixth(words: [u64; 6], i: u64) -> u64 {
     if i < 6 { words[i as usize] } else { 0 }
 }
 
-// The name of an axis, from 1: its base, or its polynomial.
-fn axis(l: Lines, out: &mut [u8], s: Sampler, x: u64) -> Lines {
+// The name of an axis of the plan, from 1: its base, or its polynomial.
+fn plan_axis(l: Lines, out: &mut [u8], s: Sampler, x: u64) -> Lines {
     let i = std::num::wrapping_sub_u64(x, 1);
     let begun = put_between(l, out, b"axis ", x, b" (");
     if s.family == 2 {
@@ -138,6 +150,14 @@ fn axis(l: Lines, out: &mut [u8], s: Sampler, x: u64) -> Lines {
     }
     let all = s.bases;
     put_between(begun, out, b"base ", sixth(all, i), b")</text>\n")
+}
+
+// The name of an axis; axis 0 leads a day set, and has the fractions n / N.
+fn axis(l: Lines, out: &mut [u8], s: Sampler, x: u64) -> Lines {
+    if x == 0 {
+        return put_between(l, out, b"axis 0 (leading, n/", s.count, b")</text>\n");
+    }
+    plan_axis(l, out, s, x)
 }
 
 // The name of the first axis drawn.
@@ -213,7 +233,7 @@ fn numbers(l: Lines, out: &mut [u8], d: Drawing) -> Lines {
 // The names above, below and beside the picture.
 fn texts(l: Lines, out: &mut [u8], d: Drawing) -> Lines {
     let planned = plan_text(l, out, d.state);
-    let headed = run_text(planned, out, d.state);
+    let headed = run_text(planned, out, d);
     let below = axis_below(headed, out, d);
     axis_beside(below, out, d)
 }

@@ -1,8 +1,11 @@
-// The points of a run.
+// The points of a run, or of a day set.
 use crate::Drawing;
 use crate::names::sixth;
+use crate::place_of;
 use lines::Lines;
 use lines::put;
+use sampler::Blocked;
+use sampler::DaySet;
 use sampler::Sampler;
 ghost use Prim.Native.Nat.{_^_, _<_, _≤_};
 
@@ -19,6 +22,22 @@ fn denominator(base: u64) -> u64
     numbers::denominator(base)
 }
 
+// The denominator of an axis of a drawing: that of a day set's leading axis, 0, is its size, which is at most 2^32.
+fn denominator_of(d: Drawing, axis: u64) -> u64
+    ensures { λ r. ⌜ r < 2 ^ 40 ⌝ }
+{
+    let s = d.state;
+    if axis != 0 {
+        let bases = s.bases;
+        return denominator(sixth(bases, std::num::wrapping_sub_u64(axis, 1)));
+    }
+    if s.count < 4294967296 {
+        s.count
+    } else {
+        4294967296
+    }
+}
+
 // Where a numerator lies on an axis, in hundredths of a unit: at most at its end.
 pub fn place(x: u64, d: u64) -> u64
     requires { ⌜ d < 2 ^ 40 ⌝ }
@@ -33,7 +52,7 @@ struct Pair {
     y: usize,
     dx: u64,
     dy: u64,
-    axes: usize,
+    width: usize,
     radius: u64,
 }
 
@@ -65,8 +84,8 @@ fn points(l: Lines, out: &mut [u8], buf: &[u64], n: u64, p: Pair) -> Lines
         let left = place(word(buf, i), p.dx);
         let up = place(word(buf, j), p.dy);
         next = point(next, out, left, 100000 - up, p.radius);
-        i = std::num::wrapping_add_usize(i, p.axes);
-        j = std::num::wrapping_add_usize(j, p.axes);
+        i = std::num::wrapping_add_usize(i, p.width);
+        j = std::num::wrapping_add_usize(j, p.width);
         k += 1;
     }
     next
@@ -80,16 +99,31 @@ fn radius(count: u64) -> u64 {
     if count <= 20000 { 2 } else { 1 }
 }
 
-// The points of the run, block by block: there are at most as many blocks as points.
-fn blocks(l: Lines, out: &mut [u8], run: Sampler, p: Pair) -> Lines
+// As many of the next points as fit, and the sampler moved on: those of a day set have one word more, for the leading axis.
+fn block(s: Sampler, is_day: bool, buf: &mut [u64]) -> Blocked {
+    if !is_day {
+        return sampler::block(s, buf);
+    }
+    let r = sampler::day_block(DaySet { run: s }, buf);
+    let set = r.set;
+    let t = set.run;
+    Blocked {
+        code: r.code,
+        points: r.points,
+        state: t,
+    }
+}
+
+// All points, block by block: there are at most as many blocks as points.
+fn blocks(l: Lines, out: &mut [u8], d: Drawing, p: Pair) -> Lines
     requires { ⌜ (p .dx < 2 ^ 40) × (p .dy < 2 ^ 40) ⌝ }
 {
     let mut next = l;
-    let mut s = run;
+    let mut s = d.state;
     let mut buf = [0u64; 1536];
-    let mut left = run.count;
+    let mut left = s.count;
     while left > 0 {
-        let r = sampler::block(s, &mut buf);
+        let r = block(s, d.is_day, &mut buf);
         if r.code != 0 {
             return next;
         }
@@ -100,21 +134,27 @@ fn blocks(l: Lines, out: &mut [u8], run: Sampler, p: Pair) -> Lines
     next
 }
 
-// All points of the run.
+// How many words a point has.
+fn width(d: Drawing) -> usize {
+    let s = d.state;
+    if d.is_day {
+        return std::num::wrapping_add_usize(s.axes, 1);
+    }
+    s.axes
+}
+
+// All points of the run or the day set.
 pub fn all(l: Lines, out: &mut [u8], d: Drawing) -> Lines {
     let s = d.state;
-    let bases = s.bases;
-    let i = std::num::wrapping_sub_u64(d.x, 1);
-    let j = std::num::wrapping_sub_u64(d.y, 1);
     let p = Pair {
-        x: i as usize,
-        y: j as usize,
-        dx: denominator(sixth(bases, i)),
-        dy: denominator(sixth(bases, j)),
-        axes: s.axes,
+        x: place_of(d, d.x) as usize,
+        y: place_of(d, d.y) as usize,
+        dx: denominator_of(d, d.x),
+        dy: denominator_of(d, d.y),
+        width: width(d),
         radius: radius(s.count),
     };
     let begun = put(l, out, b"<g fill=\"#1f5fa8\">\n");
-    let done = blocks(begun, out, s, p);
+    let done = blocks(begun, out, d, p);
     put(done, out, b"</g>\n")
 }

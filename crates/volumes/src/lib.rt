@@ -15,7 +15,7 @@ fn cut(v: u64, u: u64, q: u64) -> u64
 
 // The window's volume in billionths.
 pub fn volume(w: &[u64], axes: usize) -> u64
-    requires { ⌜ (axes ≤ 6) × (isWindow (now w) axes ≡ true) ⌝ }
+    requires { ⌜ (axes ≤ 7) × (isWindow (now w) axes ≡ true) ⌝ }
     ensures { λ r. ⌜ (r ≡ volumeOf (now (w .entry)) axes) × (r ≤ 10 ^ 9) ⌝ }
 {
     let mut v: u64 = 1000000000000000000;

@@ -1,4 +1,4 @@
-// Reads plans, runs and windows as text from standard input, and prints each window's weight: the share of the run's points that are inside,
+// Reads plans, runs, day sets and windows as text from standard input, and prints each window's weight: the share of the points that are inside,
 // the window's volume, and how far the one may lie from the other.
 mod row;
 
@@ -6,8 +6,13 @@ use job::Job;
 use lines::Lines;
 use lines::put;
 use row::Row;
+use sampler::Counted;
+use sampler::DaySet;
+use sampler::Sampler;
+ghost use mathlib.Core.Path.{_≡_};
 ghost use Prim.Native.Nat.{_≤_};
 ghost use lib.ListN.{length};
+ghost use Rattle.weights.specs.Answered.{Answered};
 
 // What the columns are.
 fn head(l: Lines, out: &mut [u8]) -> Lines {
@@ -28,10 +33,20 @@ fn head(l: Lines, out: &mut [u8]) -> Lines {
     )
 }
 
+// How many points of the run, or of the day set, are inside a window, and the bound.
+fn counted(s: Sampler, is_day: bool, w: &[u64]) -> Counted
+    ensures { λ r. ⌜ (r .code ≡ 0 → Answered s (now (w .entry)) r) ⌝ }
+{
+    if is_day {
+        return sampler::day_count(DaySet { run: s }, w);
+    }
+    sampler::count(s, w)
+}
+
 // Counts a window, and prints its row.
 fn count(j: Job, out: &mut [u8], w: &[u64], name: &[u8]) -> Job {
     let s = j.state;
-    let r = sampler::count(s, w);
+    let r = counted(s, j.is_day, w);
     if r.code != 0 {
         let begun = job::fail(j, out);
         return job::end_number(begun, out, b"the window is refused: ", r.code);
@@ -42,7 +57,7 @@ fn count(j: Job, out: &mut [u8], w: &[u64], name: &[u8]) -> Job {
         count: s.count,
         bound: r.bound,
         claims: s.family != 2,
-        volume: volumes::volume(w, s.axes),
+        volume: volumes::volume(w, w.len() / 2),
     };
     let mut next = j;
     next.lines = row::put_row(j.lines, out, row, name);
@@ -81,13 +96,16 @@ fn text_line(j: Job, out: &mut [u8], text: &[u8]) -> Job
     if check::same(key, b"run") {
         return job::run_line(j, out, text, end);
     }
+    if check::same(key, b"day") {
+        return job::day_line(j, out, text, end);
+    }
     if check::same(key, b"axes") {
         return job::axes_line(j, out, text, end);
     }
     if check::same(key, b"window") {
         return window_line(j, out, text, end);
     }
-    job::error(j, out, b"expected plan, run, window, axes or #")
+    job::error(j, out, b"expected plan, run, day, window, axes or #")
 }
 
 // Reads the next line, and does what it asks for.

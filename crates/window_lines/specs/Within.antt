@@ -4,10 +4,10 @@ use Prim.Native.Nat.{ℕ, _+_, _≤_}
 use lib.ListN.{length}
 use Rattle.window_lines.specs.declared.WindowRead.{WindowRead}
 
--- at most six cuts, and a name of at most 32 bytes in a text of n
+-- at most seven cuts, and a name of at most 32 bytes in a text of n
 pub record Within (r : WindowRead) (n : ℕ) : Type 0 where
-  pub six : r .axes ≤ 6
-  pub room : length (r .cuts) ≡ 12
+  pub seven : r .axes ≤ 7
+  pub room : length (r .cuts) ≡ 14
   pub forward : r .start ≤ r .end
   pub short : r .end ≤ r .start + 32
   pub inside : r .end ≤ n

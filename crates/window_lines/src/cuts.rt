@@ -25,7 +25,7 @@ struct Cut {
 pub struct Cuts {
     pub wrong: u64,
     pub axes: usize,
-    pub cuts: [u64; 12],
+    pub cuts: [u64; 14],
 }
 
 // No cut, and why.
@@ -77,16 +77,16 @@ fn read_cut(word: &[u8]) -> Cut {
     in_range(u, q)
 }
 
-// The first six cuts from `from` on, or as many as are good and the first that is not.
+// The first seven cuts from `from` on, or as many as are good and the first that is not.
 pub fn read_cuts(line: &[u8], from: usize) -> Cuts
     requires { ⌜ from ≤ length (now line) ⌝ }
-    ensures { λ r. ⌜ (r .axes ≤ 6) × (length (r .cuts) ≡ 12) ⌝ }
+    ensures { λ r. ⌜ (r .axes ≤ 7) × (length (r .cuts) ≡ 14) ⌝ }
 {
-    let mut cuts = [0u64; 12];
+    let mut cuts = [0u64; 14];
     let mut wrong: u64 = 0;
     let mut at = from;
     let mut i = 0;
-    while i < 6 && wrong == 0 {
+    while i < 7 && wrong == 0 {
         let w = words::find(line, at);
         let start = w.start;
         let end = w.end;
@@ -107,10 +107,18 @@ pub fn read_cuts(line: &[u8], from: usize) -> Cuts
     }
 }
 
-// Says what is wrong with the cut of an axis.
-pub fn bad_cut(j: Job, out: &mut [u8], axis: usize, wrong: u64) -> Job {
+// The axis of the last of so many cuts: the first is of axis 1, or of a day set's leading axis, 0.
+fn axis_of(j: Job, cuts: usize) -> u64 {
+    if j.is_day {
+        return std::num::wrapping_sub_u64(cuts as u64, 1);
+    }
+    cuts as u64
+}
+
+// Says what is wrong with the last of so many cuts.
+pub fn bad_cut(j: Job, out: &mut [u8], cuts: usize, wrong: u64) -> Job {
     let begun = job::fail(j, out);
-    let said = job::say_between(begun, out, b"axis ", axis as u64, b": ");
+    let said = job::say_between(begun, out, b"axis ", axis_of(j, cuts), b": ");
     match wrong {
         TOO_LARGE => job::end(
             said,

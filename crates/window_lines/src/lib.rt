@@ -1,5 +1,5 @@
-// A line `window U/Q U/Q ..`, with one cut for each axis, or `window NAME = U/Q U/Q ..`: the window's cuts and its name, or what is wrong with
-// them.
+// A line `window U/Q U/Q ..`, with one cut for each axis, for a day set also one for its leading axis, before them, or
+// `window NAME = U/Q U/Q ..`: the window's cuts and its name, or what is wrong with them.
 mod cuts;
 
 use cuts::read_cuts;
@@ -8,14 +8,15 @@ ghost use Prim.Native.Nat.{_+_, _≤_};
 ghost use lib.ListN.{length};
 ghost use Rattle.window_lines.specs.Within.{Within};
 
-// A window: whether its line is good; the places of its name in the text, which are the same where it has none; u and q of each axis in turn.
+// A window: whether its line is good; the places of its name in the text, which are the same where it has none; how many axes it cuts, and u and q
+// of each in turn.
 pub struct WindowRead {
     pub job: Job,
     pub is_good: bool,
     pub start: usize,
     pub end: usize,
     pub axes: usize,
-    pub cuts: [u64; 12],
+    pub cuts: [u64; 14],
 }
 
 // The places of a name in a text, which are the same where there is none, and where the cuts begin.
@@ -35,7 +36,7 @@ fn not_good(j: Job) -> WindowRead
         start: 0,
         end: 0,
         axes: 0,
-        cuts: [0; 12],
+        cuts: [0; 14],
     }
 }
 
@@ -111,28 +112,51 @@ fn bad_name(j: Job, out: &mut [u8]) -> Job {
     )
 }
 
+// Says which cuts a window is to have, of a plan of so many axes.
+fn say_cuts(j: Job, out: &mut [u8], axes: u64) -> Job {
+    if j.is_day {
+        return job::say_between(
+            j,
+            out,
+            b"expected a cut U/Q for the leading axis and for each of the ",
+            axes,
+            b" axes",
+        );
+    }
+    job::say_between(
+        j,
+        out,
+        b"expected a cut U/Q for each of the ",
+        axes,
+        b" axes",
+    )
+}
+
 // Not one cut for each axis.
 fn not_each(j: Job, out: &mut [u8], axes: usize, got: usize) -> Job {
     let begun = job::fail(j, out);
-    let said = job::say_between(
-        begun,
-        out,
-        b"expected a cut U/Q for each of the ",
-        axes as u64,
-        b" axes, got ",
-    );
-    job::end_number(said, out, b"", got as u64)
+    let said = say_cuts(begun, out, axes as u64);
+    job::end_number(said, out, b", got ", got as u64)
 }
 
-// The window of a named or nameless line, with as many cuts as the plan has axes.
+// How many cuts a window has, of a plan of so many axes: one for each, and one for a day set's leading axis.
+fn cut_count(j: Job, axes: usize) -> usize {
+    if j.is_day {
+        return std::num::wrapping_add_usize(axes, 1);
+    }
+    axes
+}
+
+// The window of a named or nameless line, with as many cuts as there are axes.
 fn read_window(j: Job, out: &mut [u8], text: &[u8], n: Name) -> WindowRead
     requires { ⌜ (n .start ≤ n .end) × (n .end ≤ n .start + 32) × (n .end ≤ length (now text)) × (n .after ≤ length (now text)) ⌝ }
     ensures { λ r. ⌜ Within r (length (now (text .entry))) ⌝ }
 {
     let s = j.state;
+    let axes = s.axes;
     let got = words::count(text, n.after);
-    if got != s.axes {
-        return not_good(not_each(j, out, s.axes, got));
+    if got != cut_count(j, axes) {
+        return not_good(not_each(j, out, axes, got));
     }
     let c = read_cuts(text, n.after);
     if c.wrong != 0 {
@@ -158,7 +182,11 @@ pub fn window_line(j: Job, out: &mut [u8], text: &[u8], from: usize) -> WindowRe
         return not_good(job::error(j, out, b"expected a plan before the window"));
     }
     if !j.has_run {
-        return not_good(job::error(j, out, b"expected a run before the window"));
+        return not_good(job::error(
+            j,
+            out,
+            b"expected a run or a day set before the window",
+        ));
     }
     let n = find_name(text, from);
     if has_sign(text, n.after) {

@@ -7,7 +7,7 @@ use Rattle.picture.proofs.plot.Statement.{statement}
 use Rattle.picture.proofs.plot.Tie as tie
 
 abbrev Inv-loop : tie.InvT-loop
-Inv-loop chunk₀ held₀ out₀ kept₀ names₀ p₀ turns₀ chunk held out kept names p turns = (length chunk ≡ 4096) × (length held ≡ 1024) × (length out ≡ 16384) × (length kept ≡ 384) × (length names ≡ 1024) × (p .windows ≤ 32)
+Inv-loop chunk₀ held₀ out₀ kept₀ names₀ p₀ turns₀ chunk held out kept names p turns = (length chunk ≡ 4096) × (length held ≡ 1024) × (length out ≡ 16448) × (length kept ≡ 448) × (length names ≡ 1024) × (p .windows ≤ 32)
 
 abbrev μ-loop : tie.MeasureT-loop
 μ-loop chunk₀ held₀ out₀ kept₀ names₀ p₀ turns₀ chunk held out kept names p turns = turns

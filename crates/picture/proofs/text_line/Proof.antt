@@ -61,17 +61,14 @@ slice-aggregate-same-3 c = search needs
 same-requires-3 : tie.Need-same-requires-3
 same-requires-3 c κs = search needs
 
-window-line-requires : tie.Need-window-line-requires
-window-line-requires c κs = search needs
+day-line-requires : tie.Need-day-line-requires
+day-line-requires c κs = search needs
+
+afresh-requires-3 : tie.Need-afresh-requires-3
+afresh-requires-3 c κs = search needs
 
 same-length-3 : tie.Need-same-length-3
 same-length-3 c = search needs
-
-same-length-4 : tie.Need-same-length-4
-same-length-4 c = search needs
-
-same-length-5 : tie.Need-same-length-5
-same-length-5 c = search needs
 
 returns-4 : tie.Need-returns-4
 returns-4 c = search needs
@@ -82,14 +79,35 @@ slice-aggregate-same-4 c = search needs
 same-requires-4 : tie.Need-same-requires-4
 same-requires-4 c κs = search needs
 
-axes-line-requires : tie.Need-axes-line-requires
-axes-line-requires c κs = search needs
+window-line-requires : tie.Need-window-line-requires
+window-line-requires c κs = search needs
+
+same-length-4 : tie.Need-same-length-4
+same-length-4 c = search needs
+
+same-length-5 : tie.Need-same-length-5
+same-length-5 c = search needs
 
 same-length-6 : tie.Need-same-length-6
 same-length-6 c = search needs
 
 returns-5 : tie.Need-returns-5
-returns-5 c = let start = c .before .before .before .before .before .before .before .before .before .before .before .before .before .before .before .before .before .before .before .before .before .before .before in omega (arith, start .pre .0)
+returns-5 c = search needs
+
+slice-aggregate-same-5 : tie.Need-slice-aggregate-same-5
+slice-aggregate-same-5 c = search needs
+
+same-requires-5 : tie.Need-same-requires-5
+same-requires-5 c κs = search needs
+
+axes-line-requires : tie.Need-axes-line-requires
+axes-line-requires c κs = search needs
+
+same-length-7 : tie.Need-same-length-7
+same-length-7 c = search needs
+
+returns-6 : tie.Need-returns-6
+returns-6 c = let start = c .before .before .before .before .before .before .before .before .before .before .before .before .before .before .before .before .before .before .before .before .before .before .before .before .before .before in omega (arith, start .pre .0)
 
 slice-aggregate-error : tie.Need-slice-aggregate-error
 slice-aggregate-error c = search needs
@@ -97,11 +115,11 @@ slice-aggregate-error c = search needs
 error-requires : tie.Need-error-requires
 error-requires c κs = search needs
 
-same-length-7 : tie.Need-same-length-7
-same-length-7 c = search needs
+same-length-8 : tie.Need-same-length-8
+same-length-8 c = search needs
 
-returns-6 : tie.Need-returns-6
-returns-6 c = let start = c .before .before .before .before .before .before .before .before .before .before .before .before .before .before .before .before .before .before .before .before .before .before .before .before in omega (arith, start .pre .0)
+returns-7 : tie.Need-returns-7
+returns-7 c = let start = c .before .before .before .before .before .before .before .before .before .before .before .before .before .before .before .before .before .before .before .before .before .before .before .before .before .before .before in omega (arith, start .pre .0)
 
 pub text-line-spec : {M : Type 1} → statement M
 text-line-spec =
@@ -126,17 +144,23 @@ text-line-spec =
     returns-3
     slice-aggregate-same-3
     same-requires-3
-    window-line-requires
+    day-line-requires
+    afresh-requires-3
     same-length-3
-    same-length-4
-    same-length-5
     returns-4
     slice-aggregate-same-4
     same-requires-4
-    axes-line-requires
+    window-line-requires
+    same-length-4
+    same-length-5
     same-length-6
     returns-5
+    slice-aggregate-same-5
+    same-requires-5
+    axes-line-requires
+    same-length-7
+    returns-6
     slice-aggregate-error
     error-requires
-    same-length-7
-    returns-6)
+    same-length-8
+    returns-7)

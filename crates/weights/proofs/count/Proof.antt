@@ -1,12 +1,11 @@
 -- The count that was answered fits a row. Assumes nothing.
 use native.Mathlib.Omega.{arith}
-use Rattle.weights.proofs.CountLaws.{answered}
 use borrow.Author.Needs.{needs}
 use Rattle.weights.proofs.count.Statement.{statement}
 use Rattle.weights.proofs.count.Tie as tie
 
-count-requires : tie.Need-count-requires
-count-requires c κs = search needs
+counted-requires : tie.Need-counted-requires
+counted-requires c κs = search needs
 
 fail-requires : tie.Need-fail-requires
 fail-requires c κs = search needs
@@ -25,15 +24,15 @@ returns c = search needs
 
 volume-requires : tie.Need-volume-requires
 volume-requires c κs =
-    let r = c .before .before .before in
-    let a = answered _ _ (r .count .result) (r .count .ensures) (omega arith) in
-    (a .2, a .3)
+    let r = c .before .before .before .counted in
+    let a = r .ensures (omega arith) in
+    (a .cuts, a .window)
 
 put-row-requires : tie.Need-put-row-requires
 put-row-requires c κs =
-    let r = c .before .before .before .before .before in
-    let a = answered _ _ (r .count .result) (r .count .ensures) (omega arith) in
-    (a .0, a .1)
+    let r = c .before .before .before .before .before .counted in
+    let a = r .ensures (omega arith) in
+    (a .inside, a .few)
 
 same-length-2 : tie.Need-same-length-2
 same-length-2 c = search needs
@@ -45,7 +44,7 @@ pub count-spec : {M : Type 1} → statement M
 count-spec =
     tie.close
     (tie.spec
-    count-requires
+    counted-requires
     fail-requires
     slice-aggregate-end-number
     end-number-requires

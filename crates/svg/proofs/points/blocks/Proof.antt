@@ -6,10 +6,10 @@ use Rattle.svg.proofs.points.blocks.Statement.{statement}
 use Rattle.svg.proofs.points.blocks.Tie as tie
 
 abbrev Inv-loop : tie.InvT-loop
-Inv-loop out₀ p next₀ s₀ buf₀ left₀ out next s buf left = (length out ≡ length out₀) × (length buf ≡ 1536)
+Inv-loop out₀ d p next₀ s₀ buf₀ left₀ out next s buf left = (length out ≡ length out₀) × (length buf ≡ 1536)
 
 abbrev μ-loop : tie.MeasureT-loop
-μ-loop out₀ p next₀ s₀ buf₀ left₀ out next s buf left = left
+μ-loop out₀ d p next₀ s₀ buf₀ left₀ out next s buf left = left
 
 loop-holds : tie.Need-loop-holds Inv-loop μ-loop
 loop-holds c = search needs

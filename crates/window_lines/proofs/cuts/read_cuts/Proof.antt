@@ -1,4 +1,4 @@
--- At most six cuts, read one after another. Assumes nothing.
+-- At most seven cuts, read one after another. Assumes nothing.
 use borrow.Author.Needs.{needs}
 use mathlib.Core.Path.{_≡_}
 use Prim.Native.Nat.{_-_, _≤_}
@@ -7,10 +7,10 @@ use Rattle.window_lines.proofs.cuts.read_cuts.Statement.{statement}
 use Rattle.window_lines.proofs.cuts.read_cuts.Tie as tie
 
 abbrev Inv-loop : tie.InvT-loop
-Inv-loop line from cuts₀ wrong₀ at₀ i₀ cuts wrong at i = (i ≤ 6) × (at ≤ length line) × (length cuts ≡ 12)
+Inv-loop line from cuts₀ wrong₀ at₀ i₀ cuts wrong at i = (i ≤ 7) × (at ≤ length line) × (length cuts ≡ 14)
 
 abbrev μ-loop : tie.MeasureT-loop
-μ-loop line from cuts₀ wrong₀ at₀ i₀ cuts wrong at i = 6 - i
+μ-loop line from cuts₀ wrong₀ at₀ i₀ cuts wrong at i = 7 - i
 
 loop-holds : tie.Need-loop-holds Inv-loop μ-loop
 loop-holds c = search needs

@@ -1,0 +1,4 @@
+// The program `plot` on the leading axis, but a run.
+fn main() {
+    picture::plot();
+}
