@@ -157,6 +157,11 @@ uint64_t baseline_count(const plan_t *p, uint64_t start, uint64_t count, const u
     return inside;
 }
 
+void baseline_column(size_t count, uint64_t *out) {
+    for (size_t i = 0; i < count; i++)
+        out[i] = i;
+}
+
 void baseline_prepare(const plan_t *p, jumper_t *j) {
     memset(j, 0, sizeof *j);
     j->plan = *p;

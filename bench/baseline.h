@@ -20,6 +20,9 @@ void baseline_block(const plan_t *p, uint64_t start, size_t count, uint64_t *out
 /* How many of them are inside the window u / q. */
 uint64_t baseline_count(const plan_t *p, uint64_t start, uint64_t count, const uint64_t *window);
 
+/* The numbers of so many points, from 0: the column that a day set has before those of the plan. */
+void baseline_column(size_t count, uint64_t *out);
+
 /* A plan with what a jump wants made beforehand: the images of the digits, and the reciprocal of each base. */
 typedef struct {
     plan_t plan;

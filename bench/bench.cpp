@@ -70,6 +70,18 @@ static void same(const Case &c) {
     }
 }
 
+static void same_day_set(const Case &c) {
+    size_t n = 5000, s = (size_t)c.plan.axes;
+    std::vector<uint64_t> ours(n * (s + 1)), plain(n * s), rows;
+    check(bench_day_blocks(c.bytes.data(), c.bytes.size(), n, 1, ours.data(), ours.size()) == n, c.name + ": a block of a day set");
+    baseline_block(&c.plan, 0, n, plain.data());
+    for (size_t i = 0; i < n; i++) {
+        rows.push_back(i);
+        rows.insert(rows.end(), &plain[i * s], &plain[i * s] + s);
+    }
+    check(ours == rows, c.name + ": points of a day set");
+}
+
 // Prints a row: the first program is ours.
 static void row(const std::string &name, const std::vector<Program> &programs) {
     std::vector<double> ns = race(programs);
@@ -155,17 +167,48 @@ static void small_blocks(const std::vector<Case> &all) {
         }
 }
 
+// A day set's block beside what gives the same words without it: the run's block, and a column of numbers by plain C.
+static void day_blocks(const std::vector<Case> &all) {
+    printf("\n## A block of a day set of 100,000 points: ns a point\n\n| plan | ours | the run's block, and a column of numbers by plain C |\n|---|---|---|\n");
+    for (const Case &c : all) {
+        size_t n = 100000, s = (size_t)c.plan.axes;
+        std::vector<uint64_t> out(n * (s + 1));
+        row(c.name, {{"ours", (double)n, [&] { bench_day_blocks(c.bytes.data(), c.bytes.size(), n, 1, out.data(), out.size()); }},
+                     {"block, C", (double)n, [&] {
+                          bench_blocks(c.bytes.data(), c.bytes.size(), 0, 1, out.data(), n * s);
+                          baseline_column(n, out.data() + n * s);
+                      }}});
+    }
+}
+
+// A window: the cuts given, then 1/2, 2/3, .. for the axes of the plan.
+static std::vector<uint64_t> window_of(const Case &c, std::vector<uint64_t> cuts) {
+    for (uint64_t a = 1; a <= (uint64_t)c.plan.axes; a++)
+        cuts.insert(cuts.end(), {a, a + 1});
+    return cuts;
+}
+
 static void counts(const std::vector<Case> &all) {
     printf("\n## A window count over 200,000 points: ns a point\n\n| plan | ours | plain C |\n|---|---|---|\n");
     for (const Case &c : all) {
-        uint64_t n = 200000, window[12], s = 0, plain = 0;
-        for (int a = 0; a < c.plan.axes; a++) {
-            window[2 * a] = (uint64_t)a + 1;
-            window[2 * a + 1] = (uint64_t)a + 2;
-        }
-        row(c.name, {{"ours", (double)n, [&] { s = bench_counts(c.bytes.data(), c.bytes.size(), 12345, n, window, 2 * (size_t)c.plan.axes, 1); }},
-                     {"C", (double)n, [&] { plain = baseline_count(&c.plan, 12345, n, window); }}});
+        uint64_t n = 200000, s = 0, plain = 0;
+        std::vector<uint64_t> window = window_of(c, {});
+        row(c.name, {{"ours", (double)n, [&] { s = bench_counts(c.bytes.data(), c.bytes.size(), 12345, n, window.data(), window.size(), 1); }},
+                     {"C", (double)n, [&] { plain = baseline_count(&c.plan, 12345, n, window.data()); }}});
         check(s == plain, c.name + ": S");
+    }
+}
+
+// A day set's count with the leading cut 1/4 beside that of the whole set.
+static void day_counts(const std::vector<Case> &all) {
+    printf("\n## A window count over a day set of 200,000 points: ns a point of the set\n\n| plan | leading cut 1/4 | leading cut 4/4 |\n|---|---|---|\n");
+    for (const Case &c : all) {
+        uint64_t n = 200000, s = 0, whole = 0;
+        std::vector<uint64_t> window = window_of(c, {1, 4}), others = window_of(c, {}), all_points = window_of(c, {4, 4});
+        row(c.name, {{"1/4", (double)n, [&] { s = bench_day_counts(c.bytes.data(), c.bytes.size(), n, window.data(), window.size(), 1); }},
+                     {"4/4", (double)n, [&] { whole = bench_day_counts(c.bytes.data(), c.bytes.size(), n, all_points.data(), window.size(), 1); }}});
+        check(s == baseline_count(&c.plan, 0, n / 4, others.data()), c.name + ": S of a quarter of a day set");
+        check(whole == baseline_count(&c.plan, 0, n, others.data()), c.name + ": S of a day set");
     }
 }
 
@@ -217,11 +260,15 @@ static void calls(const std::vector<Case> &all) {
 
 int main() {
     std::vector<Case> all = cases();
-    for (const Case &c : all)
+    for (const Case &c : all) {
         same(c);
+        same_day_set(c);
+    }
     blocks(all);
     small_blocks(all);
+    day_blocks(all);
     counts(all);
+    day_counts(all);
     axis_jumps();
     calls(all);
 }

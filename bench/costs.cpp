@@ -29,13 +29,12 @@ struct Call {
     std::function<void(const Case &, uint64_t rounds)> make;
 };
 
-// The cut 1/2 for each axis, as words.
-static size_t put_halves(const Case &c) {
-    for (int a = 0; a < c.plan.axes; a++) {
+// The cut 1/2 for each axis, and for the leading one of a day set, as words.
+static void put_halves(const Case &c) {
+    for (int a = 0; a <= c.plan.axes; a++) {
         lent()[2 * a] = 1;
         lent()[2 * a + 1] = 2;
     }
-    return 2 * (size_t)c.plan.axes;
 }
 
 static void c_count(const Case &c, uint64_t rounds) {
@@ -57,6 +56,10 @@ static std::vector<Call> calls() {
          [](const Case &c, uint64_t n) { bench_blocks(c.bytes.data(), c.bytes.size(), 12345, n, lent(), 64 * (size_t)c.plan.axes); }},
         {"count of 1,000", true,
          [](const Case &c, uint64_t n) { bench_counts(c.bytes.data(), c.bytes.size(), 12345, 1000, lent(), 2 * (size_t)c.plan.axes, n); }},
+        {"day set: block of 64", true,
+         [](const Case &c, uint64_t n) { bench_day_blocks(c.bytes.data(), c.bytes.size(), 1000, n, lent(), 64 * (size_t)(c.plan.axes + 1)); }},
+        {"day set: count of 1,000, leading cut 1/2", true,
+         [](const Case &c, uint64_t n) { bench_day_counts(c.bytes.data(), c.bytes.size(), 1000, lent(), 2 * (size_t)(c.plan.axes + 1), n); }},
         {"hisowake_point", false,
          [](const Case &c, uint64_t n) {
              for (uint64_t i = 0; i < n; i++)

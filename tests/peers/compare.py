@@ -11,6 +11,7 @@ import outside
 import plans
 import reference
 import windows
+from day_sets import day_sets
 from library import Careless, Library, WrongCount, WrongPoint, WrongRefusal
 from reference import HALTON, PERMUTED, SOBOL, Plan
 from verdict import Disagreement, same_answer
@@ -146,6 +147,7 @@ PARTS = (
     ("reference, points", reference_points, [WrongPoint]),
     ("reference, plan bytes", plan_strings, [Careless] + READING + POINT),
     ("reference, windows", window_counts, [Careless] + NUMBERS + COUNT),
+    ("reference, day sets", day_sets, [WrongPoint]),
 )
 
 

@@ -59,7 +59,7 @@ def random_scripts(program, rng):
         script = b"".join(line + b"\n" for line in lines)
         said = [answer for answer in answers if answer is not None]
         compare(f"script {turn}", script, run(program, script), said + [""])
-        met.update(" ".join(answer.split()[:2]) for answer in said if not answer.startswith(("line", "state", "poke", "blank")))
+        met.update(" ".join(words[:2]) for words in map(str.split, said) if words[0] in EVERY)
         met["lines in error"] += sum(answer.startswith("line") for answer in said)
     return met
 
@@ -74,6 +74,11 @@ EVERY = {
     "place": [0, 12, 13, 15],
     "block": [0, 12, 13, 15],
     "count": [0, 14, 15],
+    "day": [0, 11, 15],
+    "dayjump": [0, 11, 13, 15],
+    "daystep": [0, 12, 13, 15],
+    "dayblock": [0, 12, 13, 15],
+    "daycount": [0, 14, 15],
 }
 
 

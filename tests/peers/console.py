@@ -1,12 +1,14 @@
 """The console in plain Python: what each line answers, by reference.py and states.py."""
+from functools import partial
+
 import plans
 import reference
 import states
 from reference import INDEXES, Refused
+from states import DaySet, Run
 
 MOST_ROOM = 4224
 BYTE, WORD = 0xA5, 0xA5A5A5A5A5A5A5A5
-FIRST_WORDS = "read, write, open, jump, second, step, place, block, count, state, poke, blank or # as the first word"
 
 
 class Misread(Exception):
@@ -19,10 +21,10 @@ def misread_if(condition, expected):
 
 
 class Console:
-    """Its state, and the number of its last line."""
+    """The words of its state and of its day set, and the number of its last line."""
 
     def __init__(self):
-        self.state, self.line = states.BLANK, 0
+        self.held, self.line = {Run: states.BLANK, DaySet: states.BLANK}, 0
 
     def answer(self, line):
         """What a line of bytes, without its newline, answers, or None."""
@@ -38,7 +40,7 @@ class Console:
     def call(self, first, rest):
         """The words of the answer to a call."""
         name = first.decode("latin-1")
-        misread_if(name not in CALLS, FIRST_WORDS)
+        misread_if(name not in CALLS, f"{', '.join(CALLS)} or # as the first word")
         return [name] + CALLS[name](self, rest)
 
 
@@ -70,7 +72,7 @@ def room_of(room):
     return room
 
 
-# ---- the calls
+# ---- the calls on a plan
 
 
 def refusable(call):
@@ -88,7 +90,7 @@ def read(console, words):
     misread_if(other, f"hexadecimal digits, but character {other} of HEX is another")
     misread_if(len(digits) % 2, "two hexadecimal digits a byte, got an odd number of digits")
     code, plan = refusable(lambda: reference.read(bytes.fromhex(digits.decode())))
-    console.state = states.BLANK if code else states.made(plan, 0, 0, 0)
+    console.held[Run] = states.BLANK if code else states.made(plan, 0, 0, 0)
     return [code]
 
 
@@ -96,7 +98,7 @@ def write(console, words):
     room = room_of(*numbers(words, "write ROOM", 1))
 
     def plan_bytes():
-        data = plans.bytes_of(states.genuine_plan(console.state))
+        data = plans.bytes_of(Run(console.held[Run]).plan)
         reference.refuse_if(room < len(data), 13)
         return data
 
@@ -106,112 +108,116 @@ def write(console, words):
     return [code, len(data)] + [lent.hex()] * (room > 0)
 
 
+def opened(console, start, count):
+    """The words of the state's plan with this run."""
+    plan = Run(console.held[Run]).plan
+    reference.refuse_if(start + count > INDEXES, 11)
+    return states.made(plan, start, count, 0)
+
+
 def open_run(console, words):
     count, start = numbers(words, "open COUNT START", 2)
-
-    def opened():
-        plan = states.genuine_plan(console.state)
-        reference.refuse_if(start + count > INDEXES, 11)
-        return states.made(plan, start, count, 0)
-
-    code, state = refusable(opened)
-    console.state = state or console.state
+    code, state = refusable(lambda: opened(console, start, count))
+    console.held[Run] = state or console.held[Run]
     return [code]
 
 
-def lent_words(room, written):
-    return list(written) + [WORD] * (room - len(written))
-
-
-def jump(console, words):
-    index, room = numbers(words, "jump INDEX ROOM", 2)
-    room_of(room)
-
-    def point():
-        plan = states.genuine_plan(console.state)
-        reference.refuse_if(index >= INDEXES, 11)
-        reference.refuse_if(room < len(plan.axes), 13)
-        return reference.point(plan, index)
-
-    code, written = refusable(point)
-    return [code] + lent_words(room, written or ())
-
-
-def points_taken(console, room, most):
-    """As many points of the run as are left and fit whole, at most so many: a refusal's number or 0, how many, and their words."""
-
-    def taken_points():
-        plan = states.genuine_plan(console.state)
-        start, count, taken = states.run_in(console.state)
-        reference.refuse_if(taken >= count, 12)
-        reference.refuse_if(room < len(plan.axes), 13)
-        k = min(most, count - taken, room // len(plan.axes))
-        return k, states.made(plan, start, count, taken + k), reference.run_points(plan, start + taken, k)
-
-    code, took = refusable(taken_points)
-    if code:
-        return code, 0, []
-    console.state = took[1]
-    return 0, took[0], [x for point in took[2] for x in point]
-
-
-def step(form):
-    def call(console, words):
-        room = room_of(*numbers(words, form, 1))
-        code, _, written = points_taken(console, room, 1)
-        return [code] + lent_words(room, written)
-
-    return call
-
-
-def block(console, words):
-    room = room_of(*numbers(words, "block ROOM", 1))
-    code, k, written = points_taken(console, room, room)
-    return [code, k] + lent_words(room, written)
+def make_day_set(console, words):
+    (size,) = numbers(words, "day N", 1)
+    code, day_set = refusable(lambda: opened(console, 0, size))
+    console.held[DaySet] = day_set or states.BLANK
+    return [code]
 
 
 def second(console, words):
     (index,) = numbers(words, "second INDEX", 1)
 
     def of_day():
-        plan = states.genuine_plan(console.state)
+        plan = Run(console.held[Run]).plan
         reference.refuse_if(index >= INDEXES, 11)
-        return reference.point(plan, index)[0] * 86400 // reference.denominator(plan, plan.axes[0])
+        return reference.point(plan, index)[0] * 86400 // reference.denominators(plan)[0]
 
     code, answer = refusable(of_day)
     return [code, answer or 0]
 
 
-def count(console, words):
-    window = numbers(words, "count U Q U Q ..")
+# ---- the calls on what the console holds: its state's run or its day set
+
+
+def lent_words(room, written):
+    return list(written) + [WORD] * (room - len(written))
+
+
+def jump(kind, form, console, words):
+    index, room = numbers(words, form, 2)
+    room_of(room)
+
+    def point():
+        held = kind(console.held[kind])
+        reference.refuse_if(index >= held.indexes, 11)
+        reference.refuse_if(room < held.width, 13)
+        return held.points(index, 1)[0]
+
+    code, written = refusable(point)
+    return [code] + lent_words(room, written or ())
+
+
+def points_taken(kind, console, room, most):
+    """As many points as are left and fit whole, at most so many: a refusal's number or 0, how many, and their words."""
+
+    def taken_points():
+        held = kind(console.held[kind])
+        reference.refuse_if(held.taken >= held.count, 12)
+        reference.refuse_if(room < held.width, 13)
+        k = min(most, held.count - held.taken, room // held.width)
+        return k, held.moved(k), held.points(held.start + held.taken, k)
+
+    code, took = refusable(taken_points)
+    if code:
+        return code, 0, []
+    console.held[kind] = took[1]
+    return 0, took[0], [x for point in took[2] for x in point]
+
+
+def step(kind, form, console, words):
+    room = room_of(*numbers(words, form, 1))
+    code, _, written = points_taken(kind, console, room, 1)
+    return [code] + lent_words(room, written)
+
+
+def block(kind, form, console, words):
+    room = room_of(*numbers(words, form, 1))
+    code, k, written = points_taken(kind, console, room, room)
+    return [code, k] + lent_words(room, written)
+
+
+def count(kind, form, console, words):
+    window = numbers(words, form)
 
     def counted():
-        plan = states.genuine_plan(console.state)
-        reference.refuse_if(len(window) != 2 * len(plan.axes), 14)
-        cuts = list(zip(window[::2], window[1::2]))
-        reference.refuse_if(any(not 1 <= q <= 2**24 or u > q for u, q in cuts), 14)
-        start, n, _ = states.run_in(console.state)
-        return reference.count_inside(plan, start, n, cuts), reference.bound(plan, n)
+        held = kind(console.held[kind])
+        return held.counted(reference.cuts_of(window, held.width))
 
     code, answer = refusable(counted)
     return [code, *(answer or (0, 0))]
 
 
-def show(console, words):
-    numbers(words, "state alone", 0)
-    return list(console.state)
+def show(kind, form, console, words):
+    numbers(words, form, 0)
+    return list(console.held[kind])
 
 
-def poke(console, words):
-    place, value = numbers(words, "poke PLACE VALUE", 2)
+def poke(kind, form, console, words):
+    place, value = numbers(words, form, 2)
     misread_if(place >= states.WORDS, "PLACE to be at most 214")
-    console.state = console.state[:place] + (value,) + console.state[place + 1 :]
+    here = console.held[kind]
+    console.held[kind] = here[:place] + (value,) + here[place + 1 :]
     return [place, value]
 
 
-def blank(console, words):
-    numbers(words, "blank alone", 0)
-    console.state = states.BLANK
+def blank(kind, form, console, words):
+    numbers(words, form, 0)
+    console.held[kind] = states.BLANK
     return []
 
 
@@ -219,15 +225,23 @@ CALLS = {
     "read": read,
     "write": write,
     "open": open_run,
-    "jump": jump,
+    "jump": partial(jump, Run, "jump INDEX ROOM"),
     "second": second,
-    "step": step("step ROOM"),
-    "place": step("place ROOM"),
-    "block": block,
-    "count": count,
-    "state": show,
-    "poke": poke,
-    "blank": blank,
+    "step": partial(step, Run, "step ROOM"),
+    "place": partial(step, Run, "place ROOM"),
+    "block": partial(block, Run, "block ROOM"),
+    "count": partial(count, Run, "count U Q U Q .."),
+    "state": partial(show, Run, "state alone"),
+    "poke": partial(poke, Run, "poke PLACE VALUE"),
+    "blank": partial(blank, Run, "blank alone"),
+    "day": make_day_set,
+    "dayjump": partial(jump, DaySet, "dayjump N ROOM"),
+    "daystep": partial(step, DaySet, "daystep ROOM"),
+    "dayblock": partial(block, DaySet, "dayblock ROOM"),
+    "daycount": partial(count, DaySet, "daycount U Q U Q .."),
+    "daystate": partial(show, DaySet, "daystate alone"),
+    "daypoke": partial(poke, DaySet, "daypoke PLACE VALUE"),
+    "dayblank": partial(blank, DaySet, "dayblank alone"),
 }
 
 

@@ -1,7 +1,9 @@
-"""Plans, points and window counts in plain Python, written from the papers alone: the scope document 01 and the source documents 001 (Faure's
-permutations), 002 and 004 (van der Corput, Halton) and 003 (Sobol). It shares nothing with the crates, and is slow on purpose."""
+"""Plans, points, window counts and day sets in plain Python, written from the papers alone: the scope document 01, K1 of the change requests 02,
+and the source documents 001 (Faure's permutations), 002 and 004 (van der Corput, Halton, Hammersley) and 003 (Sobol). It shares nothing with the
+crates, and is slow on purpose."""
 from collections import namedtuple
 from functools import lru_cache
+from itertools import takewhile
 from math import gcd
 
 INDEXES = 2**32
@@ -111,8 +113,8 @@ def depth(base):
     return k
 
 
-def denominator(plan, axis):
-    return SOBOL_DENOMINATOR if plan.family == SOBOL else axis ** depth(axis)
+def denominators(plan):
+    return [SOBOL_DENOMINATOR if plan.family == SOBOL else axis ** depth(axis) for axis in plan.axes]
 
 
 def halton_numerator(base, index, image):
@@ -208,19 +210,47 @@ def bound(plan, count):
     return product
 
 
+def inside(plan, points, cuts):
+    """How many of the points have numerator x q below u x denominator on every axis."""
+    tests = [(q, u * d) for (u, q), d in zip(cuts, denominators(plan))]
+    return sum(all(x * q < limit for x, (q, limit) in zip(here, tests)) for here in points)
+
+
 def count_inside(plan, start, count, cuts):
-    """How many points of the run have numerator x q below u x denominator on every axis."""
-    tests = [(q, u * denominator(plan, axis)) for (u, q), axis in zip(cuts, plan.axes)]
-    return sum(all(x * q < limit for x, (q, limit) in zip(here, tests)) for here in run_points(plan, start, count))
+    return inside(plan, run_points(plan, start, count), cuts)
 
 
-def read_window(plan, window):
-    """The cuts (u, q) of window bytes."""
-    refuse_if(len(window) != 8 * len(plan.axes), 14)
-    words = [int.from_bytes(window[i : i + 4], "big") for i in range(0, len(window), 4)]
+def cuts_of(words, axes):
+    """The cuts (u, q) of a window's words."""
+    refuse_if(len(words) != 2 * axes, 14)
     cuts = list(zip(words[::2], words[1::2]))
     refuse_if(any(not 1 <= q <= 2**24 or u > q for u, q in cuts), 14)
     return cuts
+
+
+def read_window(plan, window):
+    """The cuts of window bytes."""
+    refuse_if(len(window) % 4, 14)
+    return cuts_of([int.from_bytes(window[i : i + 4], "big") for i in range(0, len(window), 4)], len(plan.axes))
+
+
+# ---- day sets: document 002's Hammersley set of a size N, the points n / N and the plan's point of index n
+
+
+def day_points(plan, first, count):
+    """The points numbered from `first` on: the numerator n, whose denominator is N, then those of the plan."""
+    return [(n, *here) for n, here in enumerate(run_points(plan, first, count), first)]
+
+
+def day_count_inside(plan, size, cuts):
+    """How many points have n x q below u x N for the first cut and are inside the others. The first cut takes no n after one that it leaves."""
+    u, q = cuts[0]
+    led = takewhile(lambda n: n * q < u * size, range(size))
+    return inside(plan, (point(plan, n) for n in led), cuts[1:])
+
+
+def day_bound(plan, size):
+    return 0 if plan.family == SOBOL else bound(plan, size) + 1
 
 
 # ---- the C calls: each answers its number, and the bytes that it writes

@@ -4,6 +4,7 @@ import states
 import windows
 from console import Console
 from reference import Refused
+from states import DaySet, Run
 
 
 def script(rng, parts):
@@ -17,18 +18,36 @@ def script(rng, parts):
 
 
 def part(rng, console):
-    """A plan, a run of it, and calls on them; in some parts a word of the state is set between them."""
+    """A plan, a run of it, and calls on them; in some parts a day set is made, or a word of the state is set, between them."""
     data = plans.valid(rng) if rng.random() < 0.7 else plans.random_string(rng)
     yield text("read", data.hex() if rng.random() < 0.5 else data.hex().upper())
     yield opening(rng)
     for _ in range(rng.randint(0, 3)):
         yield call(rng, console)
+    if rng.random() < 0.5:
+        yield from day_part(rng, console)
     if rng.random() < 0.3:
-        yield poke(rng, console)
-    for _ in range(rng.randint(1, 12)):
+        yield poke(rng, console, Run, "poke")
+    for _ in range(rng.randint(1, 9)):
         yield call(rng, console)
     if rng.random() < 0.2:
         yield text("state")
+
+
+def day_part(rng, console):
+    """A day set and calls on it; in some parts words of it are set between them."""
+    yield making(rng, console)
+    for _ in range(rng.randint(0, 3)):
+        yield day_call(rng, console)
+    if rng.random() < 0.2:
+        yield poke(rng, console, DaySet, "daypoke")
+    if rng.random() < 0.1:
+        yield from start_pokes(rng, console)
+    for _ in range(rng.randint(1, 6)):
+        yield day_call(rng, console)
+    if rng.random() < 0.2:
+        yield text("daystate")
+        yield text(rng.choice(("dayblank", "blank")))
 
 
 def text(*words):
@@ -45,7 +64,7 @@ def opening(rng):
 
 
 def call(rng, console):
-    kind = rng.choice((jump, jump, step, step, step, block, second, count, count, write, opening_again, wrong_line))
+    kind = rng.choice((jump, jump, step, step, step, block, second, count, count, write, opening_again, wrong_line, day_call))
     return kind(rng, console)
 
 
@@ -86,29 +105,91 @@ def opening_again(rng, console):
 
 
 def count(rng, console):
-    """A window over a run that is short enough for the reference, some of them wrong; else one that any state refuses."""
-    start, n, _ = states.run_in(console.state)
+    """A window over a run that is short enough for the reference; else one that any state refuses."""
     try:
-        plan = states.genuine_plan(console.state)
+        run = Run(console.held[Run])
     except Refused:
-        plan = plans.random_plan(rng)
-        return text("count", *(x for _ in plan.axes for x in (1, rng.randint(1, 9))))
-    if n > 400:
-        return text("count", *([1, 2] * len(plan.axes) + [1]))
-    window = [x for cut in windows.random_cuts(rng, plan, start, n) for x in cut]
+        return foreign_count(rng, "count")
+    if run.count > 400:
+        return text("count", *([1, 2] * run.width + [1]))
+    return window_line(rng, "count", windows.random_cuts(rng, run.plan, run.start, run.count))
+
+
+def foreign_count(rng, name):
+    return text(name, *(x for _ in plans.random_plan(rng).axes for x in (1, rng.randint(1, 9))))
+
+
+def window_line(rng, name, cuts):
+    """A window, in some lines wrong."""
+    window = [x for cut in cuts for x in cut]
     if rng.random() < 0.3:
-        window[rng.randrange(len(window))] = rng.choice((0, 2**24, 2**24 + 1, 2**64 - 1))
+        window[rng.randrange(len(window))] = rng.choice((0, 2**24 + 1, 2**64 - 1))
     if rng.random() < 0.1:
         window = window[: rng.randrange(len(window))]
-    return text("count", *window)
+    return text(name, *window)
 
 
-def poke(rng, console):
-    """Sets a word of the state to what it is, to its neighbour's value, beside it, or to anything."""
+def poke(rng, console, kind, name):
+    """Sets a word to what it is, to its neighbour's value, beside it, or to anything."""
     place = rng.choice((rng.randrange(215), rng.randrange(14), rng.randrange(206, 215), rng.randrange(14, 46)))
-    word = console.state[place]
-    values = (word, console.state[place - 1], (word + 1) % 2**64, max(word - 1, 0), word ^ 1 << rng.randrange(64), 0, rng.randrange(2**64))
-    return text("poke", place, rng.choice(values))
+    words = console.held[kind]
+    word = words[place]
+    values = (word, words[place - 1], (word + 1) % 2**64, max(word - 1, 0), word ^ 1 << rng.randrange(64), 0, rng.randrange(2**64))
+    return text(name, place, rng.choice(values))
+
+
+# ---- the day set
+
+
+def day_call(rng, console):
+    return rng.choice((day_jump, day_jump, day_step, day_step, day_step, day_block, day_count, day_count, making))(rng, console)
+
+
+def making(rng, console):
+    """A small set, the empty one, that of one point, the largest, or one that is too large."""
+    few, large = (rng.randint(2, 9), rng.randint(2, 60)), (rng.randrange(2**32), 2**32, 2**32 + 1, rng.randrange(2**64))
+    return text("day", rng.choice(few * 3 + large + (0, 1)))
+
+
+def day_room(rng):
+    return rng.choice((7, room(rng)))
+
+
+def day_jump(rng, console):
+    """About the size, below it, or anywhere."""
+    size = states.run_in(console.held[DaySet])[1]
+    n = rng.choice((max(size - 1, 0), size, rng.randint(0, size), rng.randint(0, size), index(rng)))
+    return text("dayjump", n, day_room(rng))
+
+
+def day_step(rng, console):
+    return text("daystep", day_room(rng))
+
+
+def day_block(rng, console):
+    return text("dayblock", day_room(rng))
+
+
+def day_count(rng, console):
+    try:
+        day_set = DaySet(console.held[DaySet])
+    except Refused:
+        return foreign_count(rng, "daycount")
+    return window_line(rng, "daycount", windows.random_day_cuts(rng, day_set.plan, day_set.count))
+
+
+def start_pokes(rng, console):
+    """Makes the day set, word by word, the state of a run that does not start at 0."""
+    words = console.held[DaySet]
+    try:
+        day_set = DaySet(words)
+    except Refused:
+        return
+    run = states.made(day_set.plan, rng.randint(1, 9), day_set.count, day_set.taken)
+    yield from (text("daypoke", place, word) for place, word in enumerate(run) if word != words[place])
+
+
+# ---- lines in error
 
 
 def wrong_line(rng, console):
@@ -121,4 +202,4 @@ def wrong_line(rng, console):
 
 def call_line(rng, console):
     """A call whose numbers may grow a digit and still be answered in no time."""
-    return rng.choice((reading, jump, step, second, write))(rng, console)
+    return rng.choice((reading, jump, step, second, write, making, day_jump, day_step))(rng, console)

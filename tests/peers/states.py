@@ -1,5 +1,8 @@
 """The words of a sampler's state, in the struct's order: family, axes, 6 bases, 6 polynomials, 32 direction numbers for each of 6 axes, start,
-count, taken, and the 6 numerators of the next point. Which are there is read off 01 and the struct's comment; it shares nothing with the crates."""
+count, taken, and the 6 numerators of the next point. Which are there is read off 01 and the struct's comment; it shares nothing with the crates.
+A day set has the words of a state whose run has start 0 and the set's size as its count."""
+from functools import lru_cache
+
 import plans
 import reference
 from reference import INDEXES, SOBOL, Axis, Plan, Refused
@@ -51,6 +54,7 @@ def sobol_axis(words, i):
     return Axis(degree, tuple(p >> j & 1 for j in range(degree - 1, 0, -1)), m)
 
 
+@lru_cache(maxsize=16)
 def genuine_plan(words):
     """The plan of a state that accepted calls leave; any other state is refused by 15."""
     start, count, taken = run_in(words)
@@ -60,3 +64,41 @@ def genuine_plan(words):
         raise Refused(15) from None
     reference.refuse_if(start + count > INDEXES or taken > count or made(plan, start, count, taken) != words, 15)
     return plan
+
+
+class Run:
+    """The run of a state that accepted calls leave."""
+
+    def __init__(self, words):
+        self.plan = genuine_plan(words)
+        self.start, self.count, self.taken = run_in(words)
+        self.width = len(self.plan.axes)
+        self.indexes = INDEXES  # a jump is to an index below this
+
+    def points(self, first, count):
+        """The points of the indexes from `first` on."""
+        return reference.run_points(self.plan, first, count)
+
+    def counted(self, cuts):
+        """How many points are inside, and the bound."""
+        return reference.count_inside(self.plan, self.start, self.count, cuts), reference.bound(self.plan, self.count)
+
+    def moved(self, k):
+        """The words after so many points more."""
+        return made(self.plan, self.start, self.count, self.taken + k)
+
+
+class DaySet(Run):
+    """A day set that an accepted making, with accepted steps and blocks after it, leaves; any other is refused by 15."""
+
+    def __init__(self, words):
+        super().__init__(words)
+        reference.refuse_if(self.start != 0, 15)
+        self.width += 1
+        self.indexes = self.count
+
+    def points(self, first, count):
+        return reference.day_points(self.plan, first, count)
+
+    def counted(self, cuts):
+        return reference.day_count_inside(self.plan, self.count, cuts), reference.day_bound(self.plan, self.count)

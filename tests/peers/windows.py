@@ -27,16 +27,27 @@ def questions(rng):
 
 
 def random_cuts(rng, plan, start, count):
-    here = rng.choice(reference.run_points(plan, start, count)) if count > 0 else (0,) * len(plan.axes)
-    return [random_cut(rng, plan, axis, x) for axis, x in zip(plan.axes, here)]
+    here = reference.point(plan, rng.randrange(start, start + count)) if count > 0 else (0,) * len(plan.axes)
+    bases = [2] * len(plan.axes) if plan.family == SOBOL else plan.axes
+    return [random_cut(rng, *axis) for axis in zip(bases, reference.denominators(plan), here)]
 
 
-def random_cut(rng, plan, axis, x):
+def random_day_cuts(rng, plan, size):
+    """Cuts of which the leading one takes some 300 points at most."""
+    few = min(size, 300)
+    if few == size:
+        leading = random_cut(rng, max(size, 2), max(size, 1), rng.randrange(max(size, 1)))
+    else:
+        q = rng.choice((rng.randint(1, 2**24), 2**24))
+        leading = rng.randint(0, few * q // size), q
+    return [leading] + random_cuts(rng, plan, 0, few)
+
+
+def random_cut(rng, base, denominator, x):
     """A cut u / q: at the point x or just beside it, at an end, or anywhere."""
-    base = 2 if plan.family == SOBOL else axis
     powers = [base**j for j in range(25) if base**j <= 2**24]
     q = rng.choice((rng.choice(powers), powers[-1], rng.randint(1, 12), rng.randint(1, 2**24), 2**24))
-    at = x * q // reference.denominator(plan, axis)
+    at = x * q // denominator
     u = rng.choice((at, at + 1, 0 if rng.random() < 0.1 else q, rng.randint(0, q), q - rng.randint(0, q) // 4))
     return u, q
 

@@ -10,25 +10,31 @@ use Rattle.halton.specs.Axis.{numerator}
 use Rattle.points.specs.Run.{runOf}
 use Rattle.state.specs.declared.Sampler.{Sampler}
 use Rattle.calls.specs.Calls.{readSpec, openSpec, jumpSpec, jumpBuf, secondSpec, stepSpec, stepBuf, blockSpec, blockBuf}
-use Rattle.window_count.specs.Call.{countSpec}
+use Rattle.window_count.specs.declared.Counted.{Counted}
+use Rattle.day_set.specs.Calls.{makeSpec, dayBlockSpec, dayBlockBuf}
+use Rattle.day_set.specs.declared.DaySet.{DaySet}
 
 -- n rounds on a first value, each of which has its number, from 0
 unfoldable pub rounds : {A : Type 0} → (ℕ → A → A) → A → ℕ → A
 rounds round a zero = a
 rounds round a (suc n) = round n (rounds round a n)
 
--- after a round: what the call answered, the state and the words
-pub record Turn : Type 0 where
+-- after a round: what the call answered, the state or day set, and the words
+pub record Turn (S : Type 0) : Type 0 where
   pub answer : ℕ
-  pub state : Sampler
+  pub state : S
   pub words : List ℕ
 
-abbrev pub turn : ℕ → Sampler → List ℕ → Turn
+abbrev pub turn : {S : Type 0} → ℕ → S → List ℕ → Turn S
 turn n s words = record { answer = n; state = s; words = words }
 
 -- the state of a plan with a run opened
 unfoldable pub openedState : List ℕ → ℕ → ℕ → Sampler
 openedState plan start count = openSpec (readSpec plan .state) (runOf start count) .state
+
+-- the day set of a plan
+unfoldable pub madeSet : List ℕ → ℕ → DaySet
+madeSet plan size = makeSpec (readSpec plan .state) size .set
 
 -- the index of a round
 abbrev pub indexAt : ℕ → ℕ → ℕ
@@ -36,14 +42,17 @@ indexAt first i = bitXor first i % 2 ^ 32
 
 -- ---- a round of each call
 
-unfoldable pub blockRound : ℕ → Turn → Turn
+unfoldable pub blockRound : ℕ → Turn Sampler → Turn Sampler
 blockRound _ t = turn (blockSpec (t .state) (t .words) .points) (t .state) (blockBuf (t .state) (t .words))
 
-unfoldable pub jumpRound : ℕ → ℕ → Turn → Turn
+unfoldable pub dayBlockRound : ℕ → Turn DaySet → Turn DaySet
+dayBlockRound _ t = turn (dayBlockSpec (t .state) (t .words) .points) (t .state) (dayBlockBuf (t .state) (t .words))
+
+unfoldable pub jumpRound : ℕ → ℕ → Turn Sampler → Turn Sampler
 jumpRound first i t =
     turn (jumpSpec (t .state) (indexAt first i) (t .words) .code) (t .state) (jumpBuf (t .state) (indexAt first i) (t .words))
 
-unfoldable pub stepRound : ℕ → Turn → Turn
+unfoldable pub stepRound : ℕ → Turn Sampler → Turn Sampler
 stepRound _ t = turn (stepSpec (t .state) (t .words) .code) (stepSpec (t .state) (t .words) .state) (stepBuf (t .state) (t .words))
 
 unfoldable pub axisRound : ℕ → ℕ → ℕ → ℕ → ℕ → ℕ
@@ -54,13 +63,16 @@ secondRound s indexes i x = bitXor x (secondSpec s (getD indexes i 0) .second)
 
 -- ---- the loops
 
-unfoldable pub blocksOf : Sampler → ℕ → List ℕ → Turn
+unfoldable pub blocksOf : Sampler → ℕ → List ℕ → Turn Sampler
 blocksOf s n words = rounds blockRound (turn 0 s words) n
 
-unfoldable pub jumpsOf : Sampler → ℕ → ℕ → List ℕ → Turn
+unfoldable pub dayBlocksOf : DaySet → ℕ → List ℕ → Turn DaySet
+dayBlocksOf d n words = rounds dayBlockRound (turn 0 d words) n
+
+unfoldable pub jumpsOf : Sampler → ℕ → ℕ → List ℕ → Turn Sampler
 jumpsOf s first n words = rounds (jumpRound first) (turn 0 s words) n
 
-unfoldable pub stepsOf : Sampler → ℕ → List ℕ → Turn
+unfoldable pub stepsOf : Sampler → ℕ → List ℕ → Turn Sampler
 stepsOf s n words = rounds stepRound (turn 0 s words) n
 
 -- the numerators' exclusive or, or 0 for a base outside 2 to 256
@@ -71,7 +83,7 @@ axisJumpsOf family b first n = cond (ltb b 2) 0 (cond (ltb 256 b) 0 (rounds (axi
 unfoldable pub secondsOf : Sampler → List ℕ → ℕ
 secondsOf s indexes = rounds (secondRound s indexes) 0 (length indexes)
 
--- S, or 0 where there was no round
-unfoldable pub countsOf : Sampler → List ℕ → ℕ → ℕ
-countsOf s window zero = 0
-countsOf s window (suc n) = countSpec s window .inside
+-- S of a count's answer, or 0 where there was no round
+unfoldable pub countsOf : Counted → ℕ → ℕ
+countsOf r zero = 0
+countsOf r (suc n) = r .inside

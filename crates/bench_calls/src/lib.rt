@@ -1,7 +1,10 @@
-// The calls on a state in loops, for the benchmark: each function reads its plan once and then makes one call so many times.
+// The calls on a state or a day set in loops, for the benchmark: each function reads its plan once and then makes one call so many times.
+use sampler::DaySet;
 use sampler::Sampler;
 ghost use mathlib.Core.Path.{_≡_};
-ghost use Rattle.bench_calls.specs.Rounds.{openedState, blocksOf, jumpsOf, axisJumpsOf, secondsOf, stepsOf, countsOf};
+ghost use Rattle.window_count.specs.Call.{countSpec};
+ghost use Rattle.day_count.specs.Count.{dayCountSpec};
+ghost use Rattle.bench_calls.specs.Rounds.{openedState, madeSet, blocksOf, dayBlocksOf, jumpsOf, axisJumpsOf, secondsOf, stepsOf, countsOf};
 
 // The state of a plan with a run opened.
 fn opened(plan: &[u8], start: u64, count: u64) -> Sampler
@@ -10,6 +13,15 @@ fn opened(plan: &[u8], start: u64, count: u64) -> Sampler
     let r = sampler::read(plan);
     let o = sampler::open(r.state, start, count);
     o.state
+}
+
+// The day set of so many points of a plan.
+fn made(plan: &[u8], size: u64) -> DaySet
+    ensures { λ r. ⌜ r ≡ madeSet (now (plan .entry)) size ⌝ }
+{
+    let r = sampler::read(plan);
+    let m = sampler::make_day_set(r.state, size);
+    m.set
 }
 
 // Fills `out` by a block, `rounds` times from the same state. Answers how many points the last block has.
@@ -22,6 +34,22 @@ pub extern "C" fn bench_blocks(plan: &[u8], start: u64, rounds: u64, out: &mut [
     let mut i = 0;
     while i < rounds {
         let b = sampler::block(s, out);
+        points = b.points;
+        i += 1;
+    }
+    points
+}
+
+// Fills `out` by a block of a day set, `rounds` times from the same set. Answers how many points the last block has.
+#[no_mangle]
+pub extern "C" fn bench_day_blocks(plan: &[u8], size: u64, rounds: u64, out: &mut [u64]) -> u64
+    ensures { λ r. ⌜ (r ≡ dayBlocksOf (madeSet (now (plan .entry)) size) rounds (now (out .entry)) .answer) × (now (out .exit) ≡ dayBlocksOf (madeSet (now (plan .entry)) size) rounds (now (out .entry)) .words) ⌝ }
+{
+    let d = made(plan, size);
+    let mut points = 0;
+    let mut i = 0;
+    while i < rounds {
+        let b = sampler::day_block(d, out);
         points = b.points;
         i += 1;
     }
@@ -124,7 +152,7 @@ pub extern "C" fn bench_counts(
     window: &[u64],
     rounds: u64,
 ) -> u64
-    ensures { λ r. ⌜ r ≡ countsOf (openedState (now (plan .entry)) start count) (now (window .entry)) rounds ⌝ }
+    ensures { λ r. ⌜ r ≡ countsOf (countSpec (openedState (now (plan .entry)) start count) (now (window .entry))) rounds ⌝ }
 {
     let s = opened(plan, start, count);
     let mut inside = 0;
@@ -132,6 +160,22 @@ pub extern "C" fn bench_counts(
     while i < rounds {
         let r = sampler::count(s, window);
         inside = r.inside;
+        i += 1;
+    }
+    inside
+}
+
+// Counts a window over a day set, `rounds` times. Answers S.
+#[no_mangle]
+pub extern "C" fn bench_day_counts(plan: &[u8], size: u64, window: &[u64], rounds: u64) -> u64
+    ensures { λ r. ⌜ r ≡ countsOf (dayCountSpec (madeSet (now (plan .entry)) size) (now (window .entry))) rounds ⌝ }
+{
+    let d = made(plan, size);
+    let mut inside = 0;
+    let mut i = 0;
+    while i < rounds {
+        let c = sampler::day_count(d, window);
+        inside = c.inside;
         i += 1;
     }
     inside

@@ -4,13 +4,14 @@ use mathlib.Core.Path.{_≡_, refl, ap}
 use Prim.Native.Nat.{_-_, _≤_}
 use native.Mathlib.Numerals.{add-one}
 use native.Mathlib.Omega.{arith}
+use Rattle.window_count.specs.Call.{countSpec}
 use Rattle.window_count.specs.declared.Counted.{Counted}
 use Rattle.bench_calls.specs.Rounds.{countsOf}
 use Rattle.bench_calls.proofs.bench_counts.Statement.{statement}
 use Rattle.bench_calls.proofs.bench_counts.Tie as tie
 
 abbrev Inv-loop : tie.InvT-loop
-Inv-loop plan start count window rounds s inside₀ i₀ inside i = (i ≤ rounds) × (inside ≡ countsOf s window i)
+Inv-loop plan start count window rounds s inside₀ i₀ inside i = (i ≤ rounds) × (inside ≡ countsOf (countSpec s window) i)
 
 abbrev μ-loop : tie.MeasureT-loop
 μ-loop plan start count window rounds s inside₀ i₀ inside i = rounds - i

@@ -4,6 +4,7 @@ use mathlib.Core.Path.{_≡_, refl, ap}
 use Prim.Native.Nat.{_-_, _≤_}
 use native.Mathlib.Omega.{arith}
 use lib.ListN.{length}
+use Rattle.state.specs.declared.Sampler.{Sampler}
 use Rattle.bench_calls.specs.Rounds.{Turn, turn, jumpRound, jumpsOf}
 use Rattle.bench_calls.proofs.RoundLaws.{rounds-none, rounds-next}
 use Rattle.bench_calls.proofs.bench_jumps.Statement.{statement}
@@ -51,7 +52,7 @@ returns : tie.Need-returns Inv-loop μ-loop
 returns c =
     let l = c .before in
     let done : l .loop .i ≡ l .before .before .before .before .args .rounds = omega arith in
-    (rw (done, l .before .opened .ensures) at (ap (λ (t : Turn). t .answer) (l .loop .inv .2)), rw (done, l .before .opened .ensures) at (ap (λ (t : Turn). t .words) (l .loop .inv .2)))
+    (rw (done, l .before .opened .ensures) at (ap (λ (t : Turn Sampler). t .answer) (l .loop .inv .2)), rw (done, l .before .opened .ensures) at (ap (λ (t : Turn Sampler). t .words) (l .loop .inv .2)))
 
 pub bench-jumps-spec : {M : Type 1} → statement M
 bench-jumps-spec =
