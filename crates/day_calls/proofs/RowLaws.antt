@@ -52,7 +52,7 @@ module _ (d : DaySet) (e : d .run .start ≡ 0) where
   unfolding rowNumerator dayPoint runPoint
   one-row g k =
       let none : 0 + (dayTaken d + k) ≡ dayTaken d + k = omega arith in
-      front-row (rowNumerator (d .run)) (_+_ (dayTaken d)) k (d .run .axes)
+      front-row (rowNumerator (d .run)) (_+_ (dayTaken d)) k (dayWidth d) (d .run .axes) (omega arith)
       ∙ ap (λ (x : List ℕ). (dayTaken d + k) ∷ x)
       (ap (listed (runNumerator (dayPlan d) (runIn (d .run)) (dayTaken d + k))) (axes-are (d .run) g)
       ∙ run-point (dayPlan d) (runIn (d .run)) (dayTaken d + k)
