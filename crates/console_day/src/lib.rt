@@ -12,9 +12,9 @@ ghost use Rattle.console_text.specs.Held.{Holds};
 pub fn make(c: Console, out: &mut [u8], size: u64) -> Console
     ensures { λ r. ⌜ Holds r (c .state) (makeSpec (c .state) size .set) ⌝ }
 {
-    let m = sampler::make_day_set(c.state, size);
-    let day = m.set;
-    let lines = console_text::answer(c.lines, out, b"day", &[m.code], &[]);
+    let made = sampler::make_day_set(c.state, size);
+    let day = made.set;
+    let lines = console_text::answer(c.lines, out, b"day", &[made.code], &[]);
     console_text::with_day(c, lines, day)
 }
 
