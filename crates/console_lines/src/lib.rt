@@ -17,15 +17,6 @@ pub enum Held {
 
 // ---- the calls, by the first word
 
-// A first word that no call has.
-fn no_line(c: Console, out: &mut [u8]) -> Console {
-    console_text::error(
-        c,
-        out,
-        b"read, write, open, jump, second, step, place, block, count, state, poke, blank, day, dayjump, daystep, dayblock, daycount, daystate, daypoke, dayblank or # as the first word",
-    )
-}
-
 // A line about the day set itself, or a first word that no call has.
 fn day_state_line(c: Console, out: &mut [u8], key: &[u8], rest: &[u8]) -> Console {
     if check::same(key, b"daystate") {
@@ -37,7 +28,11 @@ fn day_state_line(c: Console, out: &mut [u8], key: &[u8], rest: &[u8]) -> Consol
     if check::same(key, b"dayblank") {
         return plain_lines::blank(c, out, Held::DaySet, b"dayblank alone", rest);
     }
-    no_line(c, out)
+    console_text::error(
+        c,
+        out,
+        b"read, write, open, jump, second, step, place, block, count, state, poke, blank, day, dayjump, daystep, dayblock, daycount, daystate, daypoke, dayblank or # as the first word",
+    )
 }
 
 // A line with a call about a day set, or another.

@@ -14,17 +14,6 @@ pub enum Lent {
     DayBlock,
 }
 
-// Makes a call about the day set on the words that are lent.
-fn day_call(c: Console, out: &mut [u8], which: Lent, words: &mut [u64]) -> Console {
-    if let Lent::DayJump(n) = which {
-        return console_day::jump(c, out, n, words);
-    }
-    if let Lent::DayStep = which {
-        return console_day::step(c, out, words);
-    }
-    console_day::block(c, out, words)
-}
-
 // Makes the call on the words that are lent.
 fn call(c: Console, out: &mut [u8], which: Lent, words: &mut [u64]) -> Console {
     if let Lent::Jump(index) = which {
@@ -39,7 +28,13 @@ fn call(c: Console, out: &mut [u8], which: Lent, words: &mut [u64]) -> Console {
     if let Lent::Block = which {
         return console_calls::block(c, out, words);
     }
-    day_call(c, out, which, words)
+    if let Lent::DayJump(n) = which {
+        return console_day::jump(c, out, n, words);
+    }
+    if let Lent::DayStep = which {
+        return console_day::step(c, out, words);
+    }
+    console_day::block(c, out, words)
 }
 
 // Lends so many words to the call.
