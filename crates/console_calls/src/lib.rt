@@ -1,138 +1,135 @@
 // The console's calls, one function each: it makes the call on the console's state, puts the line of its answer, and gives the console with
 // the state that the call leaves. A call's words and bytes are lent by the line.
 use console_text::Console;
+use sampler::Sampler;
 ghost use mathlib.Core.Path.{_≡_};
 ghost use Prim.Native.Nat.{_<_};
 ghost use Rattle.points.specs.Run.{runOf};
 ghost use Rattle.state.specs.State.{blank};
 ghost use Rattle.calls.specs.Calls.{readSpec, writeBuf, openSpec, jumpBuf, stepSpec, stepBuf, blockSpec, blockBuf};
 ghost use Rattle.state_words.specs.Words.{poked};
+ghost use Rattle.console_text.specs.Held.{Holds};
 
 // ---- on a plan
 
 // A plan's bytes: the state that reading them leaves.
 pub fn read(c: Console, out: &mut [u8], bytes: &[u8]) -> Console
-    ensures { λ r. ⌜ r .state ≡ readSpec (now (bytes .entry)) .state ⌝ }
+    ensures { λ r. ⌜ Holds r (readSpec (now (bytes .entry)) .state) (c .day) ⌝ }
 {
     let r = sampler::read(bytes);
     let state = r.state;
     let lines = console_text::answer(c.lines, out, b"read", &[r.code], &[]);
-    console_text::with(c, lines, state)
+    console_text::with_state(c, lines, state)
 }
 
 // The plan's bytes, into lent ones; the state stays.
 pub fn write(c: Console, out: &mut [u8], bytes: &mut [u8]) -> Console
-    ensures { λ r. ⌜ (r .state ≡ c .state) × (now (bytes .exit) ≡ writeBuf (c .state) (now (bytes .entry))) ⌝ }
+    ensures { λ r. ⌜ Holds r (c .state) (c .day) × (now (bytes .exit) ≡ writeBuf (c .state) (now (bytes .entry))) ⌝ }
 {
-    let state = c.state;
-    let w = sampler::write(state, bytes);
+    let w = sampler::write(c.state, bytes);
     let lines = console_text::answer_bytes(c.lines, out, b"write", &[w.code, w.len as u64], bytes);
-    console_text::with(c, lines, state)
+    console_text::with_lines(c, lines)
 }
 
 // The state with this run.
 pub fn open(c: Console, out: &mut [u8], count: u64, start: u64) -> Console
-    ensures { λ r. ⌜ r .state ≡ openSpec (c .state) (runOf start count) .state ⌝ }
+    ensures { λ r. ⌜ Holds r (openSpec (c .state) (runOf start count) .state) (c .day) ⌝ }
 {
     let m = sampler::open(c.state, start, count);
     let state = m.state;
     let lines = console_text::answer(c.lines, out, b"open", &[m.code], &[]);
-    console_text::with(c, lines, state)
+    console_text::with_state(c, lines, state)
 }
 
 // ---- on an index
 
 // The point of an index, into lent words; the state stays.
 pub fn jump(c: Console, out: &mut [u8], index: u64, words: &mut [u64]) -> Console
-    ensures { λ r. ⌜ (r .state ≡ c .state) × (now (words .exit) ≡ jumpBuf (c .state) index (now (words .entry))) ⌝ }
+    ensures { λ r. ⌜ Holds r (c .state) (c .day) × (now (words .exit) ≡ jumpBuf (c .state) index (now (words .entry))) ⌝ }
 {
-    let state = c.state;
-    let j = sampler::jump(state, index, words);
+    let j = sampler::jump(c.state, index, words);
     let lines = console_text::answer(c.lines, out, b"jump", &[j.code], words);
-    console_text::with(c, lines, state)
+    console_text::with_lines(c, lines)
 }
 
 // The second of the day of an index; the state stays.
 pub fn second(c: Console, out: &mut [u8], index: u64) -> Console
-    ensures { λ r. ⌜ r .state ≡ c .state ⌝ }
+    ensures { λ r. ⌜ Holds r (c .state) (c .day) ⌝ }
 {
-    let state = c.state;
-    let s = sampler::second(state, index);
+    let s = sampler::second(c.state, index);
     let lines = console_text::answer(c.lines, out, b"second", &[s.code, s.second], &[]);
-    console_text::with(c, lines, state)
+    console_text::with_lines(c, lines)
 }
 
 // ---- on a run
 
 // The run's next point, into lent words: the state moved on.
 pub fn step(c: Console, out: &mut [u8], words: &mut [u64]) -> Console
-    ensures { λ r. ⌜ (r .state ≡ stepSpec (c .state) (now (words .entry)) .state) × (now (words .exit) ≡ stepBuf (c .state) (now (words .entry))) ⌝ }
+    ensures { λ r. ⌜ Holds r (stepSpec (c .state) (now (words .entry)) .state) (c .day) × (now (words .exit) ≡ stepBuf (c .state) (now (words .entry))) ⌝ }
 {
     let m = sampler::step(c.state, words);
     let state = m.state;
     let lines = console_text::answer(c.lines, out, b"step", &[m.code], words);
-    console_text::with(c, lines, state)
+    console_text::with_state(c, lines, state)
 }
 
 // The same by a step in place.
 pub fn place(c: Console, out: &mut [u8], words: &mut [u64]) -> Console
-    ensures { λ r. ⌜ (r .state ≡ stepSpec (c .state) (now (words .entry)) .state) × (now (words .exit) ≡ stepBuf (c .state) (now (words .entry))) ⌝ }
+    ensures { λ r. ⌜ Holds r (stepSpec (c .state) (now (words .entry)) .state) (c .day) × (now (words .exit) ≡ stepBuf (c .state) (now (words .entry))) ⌝ }
 {
     let m = waking::wake(c.state, words);
     let state = m.state;
     let lines = console_text::answer(c.lines, out, b"place", &[m.code], words);
-    console_text::with(c, lines, state)
+    console_text::with_state(c, lines, state)
 }
 
 // As many points as are left and fit, into lent words: the state moved on.
 pub fn block(c: Console, out: &mut [u8], words: &mut [u64]) -> Console
-    ensures { λ r. ⌜ (r .state ≡ blockSpec (c .state) (now (words .entry)) .state) × (now (words .exit) ≡ blockBuf (c .state) (now (words .entry))) ⌝ }
+    ensures { λ r. ⌜ Holds r (blockSpec (c .state) (now (words .entry)) .state) (c .day) × (now (words .exit) ≡ blockBuf (c .state) (now (words .entry))) ⌝ }
 {
     let b = sampler::block(c.state, words);
     let state = b.state;
     let lines = console_text::answer(c.lines, out, b"block", &[b.code, b.points], words);
-    console_text::with(c, lines, state)
+    console_text::with_state(c, lines, state)
 }
 
 // ---- on a window
 
 // How many points of the run are inside a window, and the bound; the state stays.
 pub fn count(c: Console, out: &mut [u8], window: &[u64]) -> Console
-    ensures { λ r. ⌜ r .state ≡ c .state ⌝ }
+    ensures { λ r. ⌜ Holds r (c .state) (c .day) ⌝ }
 {
-    let state = c.state;
-    let s = sampler::count(state, window);
+    let s = sampler::count(c.state, window);
     let lines = console_text::answer(c.lines, out, b"count", &[s.code, s.inside, s.bound], &[]);
-    console_text::with(c, lines, state)
+    console_text::with_lines(c, lines)
 }
 
 // ---- the state itself
 
-// Every word of the state, which stays.
-pub fn show(c: Console, out: &mut [u8]) -> Console
-    ensures { λ r. ⌜ r .state ≡ c .state ⌝ }
+// Every word of a state, that of the run or of the day set; both stay.
+pub fn show(c: Console, out: &mut [u8], name: &[u8], s: Sampler) -> Console
+    ensures { λ r. ⌜ Holds r (c .state) (c .day) ⌝ }
 {
-    let state = c.state;
-    let words = state_words::words_of(state);
-    let lines = console_text::answer(c.lines, out, b"state", &words, &[]);
-    console_text::with(c, lines, state)
+    let words = state_words::words_of(s);
+    let lines = console_text::answer(c.lines, out, name, &words, &[]);
+    console_text::with_lines(c, lines)
 }
 
 // The state with a word set.
 pub fn poke(c: Console, out: &mut [u8], place: usize, value: u64) -> Console
     requires { ⌜ place < 215 ⌝ }
-    ensures { λ r. ⌜ r .state ≡ poked (c .state) place value ⌝ }
+    ensures { λ r. ⌜ Holds r (poked (c .state) place value) (c .day) ⌝ }
 {
     let state = state_words::poke(c.state, place, value);
     let lines = console_text::answer(c.lines, out, b"poke", &[place as u64, value], &[]);
-    console_text::with(c, lines, state)
+    console_text::with_state(c, lines, state)
 }
 
 // The blank state.
 pub fn clear(c: Console, out: &mut [u8]) -> Console
-    ensures { λ r. ⌜ r .state ≡ blank ⌝ }
+    ensures { λ r. ⌜ Holds r blank (c .day) ⌝ }
 {
     let state = sampler::blank_state();
     let lines = console_text::answer(c.lines, out, b"blank", &[], &[]);
-    console_text::with(c, lines, state)
+    console_text::with_state(c, lines, state)
 }

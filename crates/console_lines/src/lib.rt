@@ -9,24 +9,64 @@ use room_lines::Lent;
 ghost use Prim.Native.Nat.{_≤_};
 ghost use lib.ListN.{length};
 
+// What a call is about: the console's state, or its day set.
+pub enum Held {
+    State,
+    DaySet,
+}
+
 // ---- the calls, by the first word
 
-// A line about the state itself, or a first word that no call has.
-fn state_line(c: Console, out: &mut [u8], key: &[u8], rest: &[u8]) -> Console {
-    if check::same(key, b"state") {
-        return plain_lines::state(c, out, rest);
+// A line about the day set itself, or a first word that no call has.
+fn day_state_line(c: Console, out: &mut [u8], key: &[u8], rest: &[u8]) -> Console {
+    if check::same(key, b"daystate") {
+        return plain_lines::state(c, out, Held::DaySet, b"daystate alone", rest);
     }
-    if check::same(key, b"poke") {
-        return plain_lines::poke(c, out, rest);
+    if check::same(key, b"daypoke") {
+        return plain_lines::poke(c, out, Held::DaySet, b"daypoke PLACE VALUE", rest);
     }
-    if check::same(key, b"blank") {
-        return plain_lines::blank(c, out, rest);
+    if check::same(key, b"dayblank") {
+        return plain_lines::blank(c, out, Held::DaySet, b"dayblank alone", rest);
     }
     console_text::error(
         c,
         out,
-        b"read, write, open, jump, second, step, place, block, count, state, poke, blank or # as the first word",
+        b"read, write, open, jump, second, step, place, block, count, state, poke, blank, day, dayjump, daystep, dayblock, daycount, daystate, daypoke, dayblank or # as the first word",
     )
+}
+
+// A line with a call about a day set, or another.
+fn day_line(c: Console, out: &mut [u8], key: &[u8], rest: &[u8]) -> Console {
+    if check::same(key, b"day") {
+        return plain_lines::day(c, out, rest);
+    }
+    if check::same(key, b"dayjump") {
+        return room_lines::jump(c, out, Held::DaySet, b"dayjump N ROOM", rest);
+    }
+    if check::same(key, b"daystep") {
+        return room_lines::line(c, out, Lent::DayStep, b"daystep ROOM", rest);
+    }
+    if check::same(key, b"dayblock") {
+        return room_lines::line(c, out, Lent::DayBlock, b"dayblock ROOM", rest);
+    }
+    if check::same(key, b"daycount") {
+        return plain_lines::count(c, out, Held::DaySet, b"daycount U Q U Q ..", rest);
+    }
+    day_state_line(c, out, key, rest)
+}
+
+// A line about the state itself, or another.
+fn state_line(c: Console, out: &mut [u8], key: &[u8], rest: &[u8]) -> Console {
+    if check::same(key, b"state") {
+        return plain_lines::state(c, out, Held::State, b"state alone", rest);
+    }
+    if check::same(key, b"poke") {
+        return plain_lines::poke(c, out, Held::State, b"poke PLACE VALUE", rest);
+    }
+    if check::same(key, b"blank") {
+        return plain_lines::blank(c, out, Held::State, b"blank alone", rest);
+    }
+    day_line(c, out, key, rest)
 }
 
 // A line with a call on a run or a window, or another.
@@ -41,7 +81,7 @@ fn run_line(c: Console, out: &mut [u8], key: &[u8], rest: &[u8]) -> Console {
         return room_lines::line(c, out, Lent::Block, b"block ROOM", rest);
     }
     if check::same(key, b"count") {
-        return plain_lines::count(c, out, rest);
+        return plain_lines::count(c, out, Held::State, b"count U Q U Q ..", rest);
     }
     state_line(c, out, key, rest)
 }
@@ -60,7 +100,7 @@ fn plan_line(c: Console, out: &mut [u8], key: &[u8], rest: &[u8]) -> Console
         return plan_lines::open(c, out, rest);
     }
     if check::same(key, b"jump") {
-        return room_lines::jump(c, out, rest);
+        return room_lines::jump(c, out, Held::State, b"jump INDEX ROOM", rest);
     }
     if check::same(key, b"second") {
         return plain_lines::second(c, out, rest);

@@ -1,4 +1,5 @@
 // Lines with calls that are lent words.
+use crate::Held;
 use console_text::Console;
 use console_text::Numbers;
 
@@ -8,6 +9,9 @@ pub enum Lent {
     Step,
     Place,
     Block,
+    DayJump(u64),
+    DayStep,
+    DayBlock,
 }
 
 // Makes the call on the words that are lent.
@@ -21,7 +25,16 @@ fn call(c: Console, out: &mut [u8], which: Lent, words: &mut [u64]) -> Console {
     if let Lent::Place = which {
         return console_calls::place(c, out, words);
     }
-    console_calls::block(c, out, words)
+    if let Lent::Block = which {
+        return console_calls::block(c, out, words);
+    }
+    if let Lent::DayJump(n) = which {
+        return console_day::jump(c, out, n, words);
+    }
+    if let Lent::DayStep = which {
+        return console_day::step(c, out, words);
+    }
+    console_day::block(c, out, words)
 }
 
 // Lends so many words to the call.
@@ -44,12 +57,15 @@ pub fn line(c: Console, out: &mut [u8], which: Lent, form: &[u8], rest: &[u8]) -
     lend(c, out, which, n[0])
 }
 
-// `jump INDEX ROOM`.
-pub fn jump(c: Console, out: &mut [u8], rest: &[u8]) -> Console {
+// `jump INDEX ROOM`, `dayjump N ROOM`.
+pub fn jump(c: Console, out: &mut [u8], of: Held, form: &[u8], rest: &[u8]) -> Console {
     let mut n = [0u64; 2];
     let r = console_text::read_numbers(rest, &mut n);
     let Numbers::Read = r else {
-        return console_text::misread(c, out, b"jump INDEX ROOM", r);
+        return console_text::misread(c, out, form, r);
     };
+    if let Held::DaySet = of {
+        return lend(c, out, Lent::DayJump(n[0]), n[1]);
+    }
     lend(c, out, Lent::Jump(n[0]), n[1])
 }

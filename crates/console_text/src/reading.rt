@@ -4,7 +4,7 @@ use crate::report::expected;
 use crate::with_lines;
 use lines::Lines;
 use words::Number;
-ghost use mathlib.Core.Path.{_≡_};
+ghost use Rattle.console_text.specs.Held.{Holds};
 ghost use Rattle.console_text.specs.Reading.{NumbersRead};
 
 // The numbers are read; or the line has another number of words, or the word at a place from 0 is no number or one above 2^64 - 1.
@@ -41,18 +41,26 @@ pub fn read_numbers(rest: &[u8], out: &mut [u64]) -> Numbers
     Numbers::Read
 }
 
-// Puts a text, the number of a word after the first, whose place is counted from 0, and another text.
-fn put_word(l: Lines, out: &mut [u8], before: &[u8], place: usize, after: &[u8]) -> Lines {
-    let a = lines::put(l, out, before);
-    let b = lines::put_number(a, out, std::num::wrapping_add_u64(place as u64, 2));
-    lines::put(b, out, after)
+// Puts the number of a word after the first, whose place is counted from 0, and what it is.
+fn put_word(l: Lines, out: &mut [u8], place: usize, what: &[u8]) -> Lines {
+    lines::put_between(
+        l,
+        out,
+        b", but word ",
+        std::num::wrapping_add_u64(place as u64, 2),
+        what,
+    )
 }
 
 // Puts how many words a line has after the first.
 fn put_count(l: Lines, out: &mut [u8], words: usize) -> Lines {
-    let a = lines::put(l, out, b", but the number of words after the first is ");
-    let b = lines::put_number(a, out, words as u64);
-    lines::put(b, out, b"\n")
+    lines::put_between(
+        l,
+        out,
+        b", but the number of words after the first is ",
+        words as u64,
+        b"\n",
+    )
 }
 
 // Puts what is wrong with a line's numbers.
@@ -61,23 +69,17 @@ fn put_wrong(l: Lines, out: &mut [u8], n: Numbers) -> Lines {
         return put_count(l, out, k);
     }
     if let Numbers::NotNumber(i) = n {
-        return put_word(l, out, b", but word ", i, b" is no decimal number\n");
+        return put_word(l, out, i, b" is no decimal number\n");
     }
     if let Numbers::Large(i) = n {
-        return put_word(
-            l,
-            out,
-            b", but word ",
-            i,
-            b" is above 18446744073709551615\n",
-        );
+        return put_word(l, out, i, b" is above 18446744073709551615\n");
     }
     lines::put(l, out, b"\n")
 }
 
 // A line whose numbers were not read: its form, and what is wrong.
 pub fn misread(c: Console, out: &mut [u8], form: &[u8], n: Numbers) -> Console
-    ensures { λ r. ⌜ r .state ≡ c .state ⌝ }
+    ensures { λ r. ⌜ Holds r (c .state) (c .day) ⌝ }
 {
     let l = expected(c, out, form);
     let end = put_wrong(l, out, n);

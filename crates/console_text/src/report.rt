@@ -2,7 +2,7 @@
 use crate::Console;
 use crate::with_lines;
 use lines::Lines;
-ghost use mathlib.Core.Path.{_≡_};
+ghost use Rattle.console_text.specs.Held.{Holds};
 
 // Puts words in decimal, a blank before each.
 fn put_words(l: Lines, out: &mut [u8], words: &[u64]) -> Lines {
@@ -43,15 +43,13 @@ pub fn answer_bytes(l: Lines, out: &mut [u8], name: &[u8], numbers: &[u64], byte
 
 // Begins the line of an error, which says what was expected.
 pub fn expected(c: Console, out: &mut [u8], what: &[u8]) -> Lines {
-    let a = lines::put(c.lines, out, b"line ");
-    let b = lines::put_number(a, out, c.line);
-    let d = lines::put(b, out, b": expected ");
-    lines::put(d, out, what)
+    let a = lines::put_between(c.lines, out, b"line ", c.line, b": expected ");
+    lines::put(a, out, what)
 }
 
 // A line in error: what was expected.
 pub fn error(c: Console, out: &mut [u8], what: &[u8]) -> Console
-    ensures { λ r. ⌜ r .state ≡ c .state ⌝ }
+    ensures { λ r. ⌜ Holds r (c .state) (c .day) ⌝ }
 {
     let a = expected(c, out, what);
     let b = lines::put(a, out, b"\n");
@@ -60,17 +58,17 @@ pub fn error(c: Console, out: &mut [u8], what: &[u8]) -> Console
 
 // A line that asks for too many lent bytes or words.
 pub fn no_room(c: Console, out: &mut [u8]) -> Console
-    ensures { λ r. ⌜ r .state ≡ c .state ⌝ }
+    ensures { λ r. ⌜ Holds r (c .state) (c .day) ⌝ }
 {
     error(c, out, b"ROOM to be at most 4224")
 }
 
 // A word that has another character where hexadecimal digits were expected, at a place from 0.
 pub fn not_hex(c: Console, out: &mut [u8], place: usize) -> Console
-    ensures { λ r. ⌜ r .state ≡ c .state ⌝ }
+    ensures { λ r. ⌜ Holds r (c .state) (c .day) ⌝ }
 {
-    let a = expected(c, out, b"hexadecimal digits, but character ");
-    let b = lines::put_number(a, out, std::num::wrapping_add_u64(place as u64, 1));
-    let d = lines::put(b, out, b" of HEX is another\n");
+    let a = expected(c, out, b"hexadecimal digits");
+    let n = std::num::wrapping_add_u64(place as u64, 1);
+    let d = lines::put_between(a, out, b", but character ", n, b" of HEX is another\n");
     with_lines(c, d)
 }

@@ -20,14 +20,16 @@ slice-aggregate-answer-3 c = search needs
 answer-requires : tie.Need-answer-requires
 answer-requires c κs = search needs
 
-with-requires : tie.Need-with-requires
-with-requires c κs = search needs
+with-state-requires : tie.Need-with-state-requires
+with-state-requires c κs = search needs
 
 same-length : tie.Need-same-length
 same-length c = search needs
 
 returns : tie.Need-returns
-returns c = c .with .ensures ∙ ap (λ (m : Moved). m .state) (c .before .before .before .before .before .before .before .before .before .«open» .ensures)
+returns c =
+    let e = c .before .before .before .before .before .before .before .before .before .«open» .ensures in
+    record { state = c .with-state .ensures .state ∙ ap (λ (m : Moved). m .state) e; day = c .with-state .ensures .day }
 
 pub open-spec : {M : Type 1} → statement M
 open-spec =
@@ -38,6 +40,6 @@ open-spec =
     slice-aggregate-answer-2
     slice-aggregate-answer-3
     answer-requires
-    with-requires
+    with-state-requires
     same-length
     returns)

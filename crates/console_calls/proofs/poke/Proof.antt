@@ -19,14 +19,16 @@ slice-aggregate-answer-3 c = search needs
 answer-requires : tie.Need-answer-requires
 answer-requires c κs = search needs
 
-with-requires : tie.Need-with-requires
-with-requires c κs = search needs
+with-state-requires : tie.Need-with-state-requires
+with-state-requires c κs = search needs
 
 same-length : tie.Need-same-length
 same-length c = search needs
 
 returns : tie.Need-returns
-returns c = c .with .ensures ∙ c .before .before .before .before .before .before .before .before .poke .ensures
+returns c =
+    let e = c .before .before .before .before .before .before .before .before .poke .ensures in
+    record { state = c .with-state .ensures .state ∙ e; day = c .with-state .ensures .day }
 
 pub poke-spec : {M : Type 1} → statement M
 poke-spec =
@@ -37,6 +39,6 @@ poke-spec =
     slice-aggregate-answer-2
     slice-aggregate-answer-3
     answer-requires
-    with-requires
+    with-state-requires
     same-length
     returns)

@@ -17,8 +17,8 @@ slice-aggregate-answer-2 c = search needs
 answer-requires : tie.Need-answer-requires
 answer-requires c κs = search needs
 
-with-requires : tie.Need-with-requires
-with-requires c κs = search needs
+with-state-requires : tie.Need-with-state-requires
+with-state-requires c κs = search needs
 
 same-length : tie.Need-same-length
 same-length c = search needs
@@ -29,7 +29,7 @@ same-length-2 c = search needs
 returns : tie.Need-returns
 returns c =
     let e = c .before .before .before .before .before .before .before .before .before .before .before .step .ensures in
-    (c .with .ensures ∙ ap (λ (m : Moved). m .state) (e .0), e .1)
+    (record { state = c .with-state .ensures .state ∙ ap (λ (m : Moved). m .state) (e .0); day = c .with-state .ensures .day }, e .1)
 
 pub step-spec : {M : Type 1} → statement M
 step-spec =
@@ -39,7 +39,7 @@ step-spec =
     slice-aggregate-answer
     slice-aggregate-answer-2
     answer-requires
-    with-requires
+    with-state-requires
     same-length
     same-length-2
     returns)
