@@ -1,5 +1,5 @@
-// The picture of two axes of a run or of a day set, as SVG: its points, windows as frames, and the names around them. The frame is 1,000 units wide and high, and
-// the second axis goes up.
+// The picture of two axes of a run or of a day set, as SVG: its points, windows as frames, and the names around them. The frame is 1,000 units
+// wide and high, and the second axis goes up.
 mod frames;
 mod names;
 mod points;
