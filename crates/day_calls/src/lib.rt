@@ -69,16 +69,16 @@ pub fn day_jump(d: DaySet, n: u64, out: &mut [u64]) -> Jumped
 pub fn day_step(d: DaySet, out: &mut [u64]) -> DayMoved
     ensures { λ r. ⌜ (r ≡ dayStepSpec d (now (out .entry))) × (now (out .exit) ≡ dayStepBuf d (now (out .entry))) ⌝ }
 {
-    let s = d.run;
-    if s.start != 0 {
+    let run = d.run;
+    if run.start != 0 {
         return DayMoved {
             code: refusal::INVALID_STATE,
             set: d,
         };
     }
-    let next = s.taken;
+    let next = run.taken;
     let first = columns::least(1, out.len());
-    let r = run_calls::step(s, &mut out[first..]);
+    let r = run_calls::step(run, &mut out[first..]);
     put_number(r.code, next, out);
     let stepped = r.state;
     DayMoved {

@@ -1,6 +1,6 @@
 -- Demand 3 for day sets (02-change-requests.md, K1): the count is that of the first m points, m × q lies within q of u × N, and the plan's bound for
 -- m points is at most that for N. Assumes nothing.
-use mathlib.Core.Path.{_≡_, refl, sym, ap, _∙_}
+use mathlib.Core.Path.{_≡_, refl, sym, ap, _∙_, subst}
 use mathlib.Core.Bool.{true}
 use mathlib.Core.List.{List}
 use Prim.Native.Nat.{ℕ, suc, _+_, _*_, _^_, _≤_, _<_}
@@ -29,8 +29,9 @@ use Rattle.day_set.specs.declared.DaySet.{DaySet}
 use Rattle.day_set.proofs.CaseLaws.{day-is}
 use Rattle.day_set.proofs.HistoryLaws.{make-leaves}
 use Rattle.day_set.proofs.ServingLaws.{day-requests-serve}
-use Rattle.window.specs.Counting.{Cut, uOf, qOf, uProduct, qProduct, baseAt, boundOf, Cuts, cutsOf, isWindow}
+use Rattle.window.specs.Counting.{Cut, uOf, qOf, uProduct, qProduct, baseAt, boundOf, Cuts, cutAt, cutsOf, isWindow}
 use Rattle.window.proofs.Demand3.{demand-3}
+use Rattle.window.proofs.PlanLaws.{cuts-at}
 use Rattle.window.proofs.RangeLaws.{window-cuts}
 use Rattle.window.proofs.LeadingLaws.{u-front, q-front, rest-cuts}
 use Rattle.window_count.specs.Call.{counted}
@@ -38,6 +39,7 @@ use Rattle.window_count.specs.declared.Counted.{Counted}
 use Rattle.day_count.specs.Count.{dayInsideCount, dayBoundOf, dayCountSpec}
 use Rattle.day_count.proofs.FirstLaws.{firstOf, limit-reaches, limit-near, limit-within, day-first}
 use Rattle.day_count.proofs.CaseLaws.{day-count-accepted, day-count-done}
+use Rattle.day_count.proofs.EndLaws.{day-count-whole}
 
 -- one cut more, which takes m of N points
 near-more : (N m u q S U Q B b : ℕ) → 0 < q → u * N ≤ m * q → m * q < u * N + q → U ≤ Q → b ≤ B → Near m S U Q b → Near N S (u * U) (q * Q) (B + 1)
@@ -115,22 +117,28 @@ module _ (p : Plan) (v : Valid p) (N : ℕ) (small : N ≤ 2 ^ 32) (taken : ℕ)
       ∙ (rw (plan-in-made p v (dayRun N) taken) at (day-count-done (dayMade p N taken) w (accepted .0) (accepted .1)))
 
   composed : let a = dayCountSpec d w in (a .inside ≡ dayInsideCount p cuts N) × (a .bound ≡ dayBoundOf p N)
+      × (((i : ℕ) → i < widthOf p → cutAt w i .u ≡ cutAt w i .q) → a .inside ≡ N)
       × ((familyOf p ≡ 2 → ⊥) → Near N (a .inside) (uProduct cuts (widthOf p)) (qProduct cuts (widthOf p)) (a .bound))
   composed = (
     ap (λ (a : Counted). a .inside) answered,
     ap (λ (a : Counted). a .bound) answered,
+    λ same. ap (λ (a : Counted). a .inside) answered
+        ∙ day-count-whole p v cuts (window-cuts w (widthOf p) (accepted .1)) (λ i l. rw (cuts-at w (widthOf p) i l, uOf, qOf) (same i l)) N,
     λ f. rw answered (plan-near p f v (axisCount p) refl N small w (accepted .1)),
   )
 
 -- Whatever calls were accepted after a reading of bytes, which then spell a valid plan p: of every day set made with code 0, after any steps and
--- blocks, a count that takes its window answers S over the whole set and the bound; and where p is of a Halton family, S lies within that bound of
--- the window's share.
+-- blocks, a count that takes its window answers S over the whole set and the bound, and all N where u = q on every axis; and where p is of a Halton
+-- family, S lies within that bound of the window's share. And that holds of S for every cut u / q, also of those that the call does not take.
 pub day-demand-3 : (bytes : List ℕ) {s : Sampler} → After bytes s
     → (p : Plan) × Valid p × (bytes ≡ spell p)
     × ((N : ℕ) → makeSpec s N .code ≡ 0 → (requests : List Request) (w : List ℕ)
     → let a = dayCountSpec (dayAfter requests (makeSpec s N .set)) w in let cuts = cutsOf w (widthOf p) in a .code ≡ 0
     → (a .inside ≡ dayInsideCount p cuts N) × (a .bound ≡ dayBoundOf p N)
+    × (((i : ℕ) → i < widthOf p → cutAt w i .u ≡ cutAt w i .q) → a .inside ≡ N)
     × ((familyOf p ≡ 2 → ⊥) → Near N (a .inside) (uProduct cuts (widthOf p)) (qProduct cuts (widthOf p)) (a .bound)))
+    × ((family : ℕ) (bases : List ℕ) → p ≡ halton family bases → (N : ℕ) → N ≤ 2 ^ 32 → (w : List Cut) → Cuts w (suc (length bases))
+    → Near N (dayInsideCount p w N) (uProduct w (suc (length bases))) (qProduct w (suc (length bases))) (dayBoundOf p N))
 day-demand-3 bytes h =
     let l = after-leaves h in (
       l .plan,
@@ -140,4 +148,5 @@ day-demand-3 bytes h =
           let m = make-leaves l N z in
           let s = day-requests-serve (l .plan) (l .valid) N (m .0) requests 0 (omega arith) .0 in
           composed (l .plan) (l .valid) N (m .0) (0 + s .many) (ap (dayAfter requests) (m .1) ∙ s .state-is) w c,
+      λ family bases e N small w cuts. rw e (day-near family bases (subst Valid e (l .valid)) N small w cuts),
     )

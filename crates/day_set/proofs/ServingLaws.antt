@@ -15,9 +15,9 @@ use Rattle.state.specs.State.{made}
 use Rattle.calls.specs.History.{After, Request, step, block, lentTo, AllRoom}
 use Rattle.calls.proofs.CaseLaws.{run-cleared}
 use Rattle.calls.proofs.ServerLaws.{whole, Serves, ServesOne, all-serve}
-use Rattle.calls.proofs.HistoryLaws.{leaves-genuine, after-leaves}
+use Rattle.calls.proofs.HistoryLaws.{Leaves, leaves-genuine, after-leaves}
 use Rattle.state.specs.declared.Sampler.{Sampler}
-use Rattle.day_set.specs.DaySet.{dayPoint, dayPoints, dayMade, genuineDay}
+use Rattle.day_set.specs.DaySet.{dayPoint, dayPoints, dayMade, dayTaken, genuineDay}
 use Rattle.day_set.specs.Calls.{makeSpec, dayJumpSpec, dayJumpBuf, dayRunRefusals, dayStepSpec, dayStepBuf, dayBlockSpec}
 use Rattle.day_set.specs.History.{dayMovedBy, dayWrittenBy, dayServer, dayAfter, dayServed}
 use Rattle.day_set.specs.Serving.{widthOf, ServesDay}
@@ -122,6 +122,28 @@ module _ (p : Plan) (v : Valid p) (N : ℕ) (fits : N ≤ 2 ^ 32) where
             );
       }
 
+-- at the end of the largest day set
+at-end : (p : Plan) → Valid p → (buf : List ℕ) → widthOf p ≤ length buf → (d : DaySet) → ((taken : ℕ) × (taken ≤ 2 ^ 32) × (d ≡ dayMade p (2 ^ 32) taken))
+    → (dayJumpSpec d 4294967295 buf .code ≡ 0) × (take (widthOf p) (dayJumpBuf d 4294967295 buf) ≡ dayPoint p 4294967295)
+    × (dayJumpSpec d 4294967296 buf .code ≡ 11)
+    × (dayTaken d ≡ 4294967295 → let t = dayStepSpec d buf in
+    (t .code ≡ 0) × (take (widthOf p) (dayStepBuf d buf) ≡ dayPoint p 4294967295) × (dayStepSpec (t .set) buf .code ≡ 12))
+unfolding dayMade made
+at-end p v buf room d (taken, h, is) =
+    let fits : 2 ^ 32 ≤ 2 ^ 32 = omega arith in
+    let j = day-jump-at p v (2 ^ 32) fits taken buf 4294967295 h room (omega arith) in
+    let s = day-step-at p v (2 ^ 32) fits 4294967295 buf room (omega arith) in
+    rw is (
+      ap (λ (a : _). a .code) (j .0),
+      ap (take (widthOf p)) (j .1) ∙ take-at (dayPoint p 4294967295) (drop (widthOf p) buf) (widthOf p) (day-point-length p 4294967295),
+      ap (λ (a : _). a .code) (day-past p v (2 ^ 32) fits taken buf 4294967296 h (omega arith) .0),
+      λ e. rw e (
+        ap (λ (a : _). a .code) (s .0),
+        day-step-point p v (2 ^ 32) fits 4294967295 buf room (omega arith),
+        ap (λ (a : _). dayStepSpec (a .set) buf .code) (s .0) ∙ day-step-over p v (2 ^ 32) fits (4294967295 + 1) buf (omega arith),
+      ),
+    )
+
 -- Demand 2 of day sets as one theorem. Whatever calls were accepted after a reading of bytes, which then spell a valid plan: a day set is made with
 -- code 0 exactly where its size is at most 2^32, and it is then served, from point 0 on, by any steps and blocks.
 pub day-demand-2 : (bytes : List ℕ) {s : Sampler} → After bytes s
@@ -141,21 +163,25 @@ day-demand-2 bytes {s} h =
       ),
     )
 
--- The last point of the largest day set has the number 2^32 - 1: a jump gives it and none beyond, and the step that comes when it alone is left
--- gives it and leaves none.
-pub day-last : (p : Plan) → Valid p → (buf : List ℕ) → widthOf p ≤ length buf → (taken : ℕ) → taken ≤ 2 ^ 32
-    → let d = dayMade p (2 ^ 32) in
-    (dayJumpSpec (d taken) 4294967295 buf .code ≡ 0) × (take (widthOf p) (dayJumpBuf (d taken) 4294967295 buf) ≡ dayPoint p 4294967295)
-    × (dayJumpSpec (d taken) 4294967296 buf .code ≡ 11)
-    × (take (widthOf p) (dayStepBuf (d 4294967295) buf) ≡ dayPoint p 4294967295) × (dayStepSpec (dayStepSpec (d 4294967295) buf .set) buf .code ≡ 12)
-day-last p v buf room taken h =
-    let N : ℕ = 2 ^ 32 in
-    let fits : N ≤ 2 ^ 32 = omega arith in
-    let j = day-jump-at p v N fits taken buf 4294967295 h room (omega arith) in
-    let s = day-step-at p v N fits 4294967295 buf room (omega arith) .0 in (
-      ap (λ (a : _). a .code) (j .0),
-      ap (take (widthOf p)) (j .1) ∙ take-at (dayPoint p 4294967295) (drop (widthOf p) buf) (widthOf p) (day-point-length p 4294967295),
-      ap (λ (a : _). a .code) (day-past p v N fits taken buf 4294967296 h (omega arith) .0),
-      day-step-point p v N fits 4294967295 buf room (omega arith),
-      ap (λ (a : _). dayStepSpec (a .set) buf .code) s ∙ day-step-over p v N fits (4294967295 + 1) buf (omega arith),
-    )
+-- The last point of the largest day set has the number 2^32 - 1: after any steps and blocks a jump gives it and none beyond, and where it alone is
+-- left, a step gives it and leaves none.
+pub day-last : (bytes : List ℕ) {s : Sampler} → After bytes s → let m = makeSpec s (2 ^ 32) in
+    (p : Plan) × Valid p × (bytes ≡ spell p) × (m .code ≡ 0)
+    × ((requests : List Request) (buf : List ℕ) → widthOf p ≤ length buf → let d = dayAfter requests (m .set) in
+    (dayJumpSpec d 4294967295 buf .code ≡ 0) × (take (widthOf p) (dayJumpBuf d 4294967295 buf) ≡ dayPoint p 4294967295)
+    × (dayJumpSpec d 4294967296 buf .code ≡ 11)
+    × (dayTaken d ≡ 4294967295 → let t = dayStepSpec d buf in
+    (t .code ≡ 0) × (take (widthOf p) (dayStepBuf d buf) ≡ dayPoint p 4294967295) × (dayStepSpec (t .set) buf .code ≡ 12)))
+day-last bytes {s} h =
+    let l = after-leaves h in
+    let fits : 2 ^ 32 ≤ 2 ^ 32 = omega arith in
+    let z = ap (λ (a : _). a .code) (make-done s (2 ^ 32) (leaves-genuine l) fits) in
+    (l .plan, l .valid, l .spelled, z, λ requests buf room. at-end (l .plan) (l .valid) buf room _ (left-of l z requests))
+  where
+    -- the points that are taken, and the day set that is left
+    left-of : (l : Leaves bytes s) → makeSpec s (2 ^ 32) .code ≡ 0 → (requests : List Request)
+        → (taken : ℕ) × (taken ≤ 2 ^ 32) × (dayAfter requests (makeSpec s (2 ^ 32) .set) ≡ dayMade (l .plan) (2 ^ 32) taken)
+    left-of l z requests =
+        let m = make-leaves l (2 ^ 32) z in
+        let a = day-requests-serve (l .plan) (l .valid) (2 ^ 32) (m .0) requests 0 (omega arith) .0 in
+        (0 + a .many, a .within, ap (dayAfter requests) (m .1) ∙ a .state-is)

@@ -1,4 +1,4 @@
--- `inside_count::cut_limit` meets its contract: u × d is below 2^64 by more than 2^24. Assumes nothing.
+-- `inside_count::cut_limit` meets its contract: u × d is below 2^64 by at least 2^24. Assumes nothing.
 use mathlib.Core.Path.{refl}
 use Prim.Native.Nat.{_-_, _*_, _^_, _≤_}
 use native.Mathlib.Nat.{mul-le-mul}
