@@ -11,11 +11,7 @@ fn make(j: Job, out: &mut [u8], size: u64) -> Job {
     let s = j.state;
     let r = sampler::make_day_set(s, size);
     if r.code != 0 {
-        return error(
-            j,
-            out,
-            b"the day set is refused: 11, N is above 4294967296",
-        );
+        return error(j, out, b"the day set is refused: 11, N is above 4294967296");
     }
     let set = r.set;
     let t = set.run;

@@ -182,11 +182,7 @@ pub fn window_line(j: Job, out: &mut [u8], text: &[u8], from: usize) -> WindowRe
         return not_good(job::error(j, out, b"expected a plan before the window"));
     }
     if !j.has_run {
-        return not_good(job::error(
-            j,
-            out,
-            b"expected a run or a day set before the window",
-        ));
+        return not_good(job::error(j, out, b"expected a run or a day set before the window"));
     }
     let n = find_name(text, from);
     if has_sign(text, n.after) {
