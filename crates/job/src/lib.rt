@@ -24,9 +24,9 @@ ghost use Prim.Native.Nat.{_<_, _≤_};
 ghost use lib.ListN.{length};
 
 // What the lines so far leave: the input and the output; whether errors are texts of a picture; the number of the line at hand, how many lines
-// were in error, and whether the error at hand is not shown; whether a plan is in force, whether a run or a day set is, and whether it is a day
-// set, the sampler that has them, and the number of the run's or the day set's line; whether axes to draw are given, their numbers, where 0 is the
-// leading axis of a day set, whether the time of day goes along axis 1, and the number of the line that says so.
+// were in error, and whether the error at hand is not shown; whether a plan is in force, whether a run or a day set of it is, and whether that is a
+// day set, the sampler that has them, and the number of the run's or the day set's line; whether axes to draw are given, which two, from 1 or 0 for
+// a day set's leading axis, whether the time of day goes along axis 1, and the number of the line that says so.
 pub struct Job {
     pub lines: Lines,
     pub is_picture: bool,
