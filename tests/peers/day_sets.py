@@ -31,8 +31,7 @@ def day_sets(library, peers, rng):
     agree("the bounds of R8's plan for 6 points and none", [reference.day_bound(Plan(HALTON, (2, 3)), size) for size in (6, 0)], [21, 2])
     for _ in range(12):
         plan, size = plans.random_plan(rng), rng.randint(700, 1400)
-        for place, (n, *row) in enumerate(reference.day_points(plan, 0, size)):
-            agree(f"plan {plan}, point {place}", n, place)
+        for n, *row in reference.day_points(plan, 0, size):
             same_answer(f"plan {plan}, index {n}", library.point(plans.bytes_of(plan), n), "reference", (0, reference.written(row)))
         tally["day-set points"] += size
     for _ in range(300):
