@@ -1,4 +1,4 @@
 // A console for testers: a call a line, an answer a line.
 fn main() {
-    console_lines::serve();
+    console_io::serve();
 }

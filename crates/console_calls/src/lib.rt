@@ -106,7 +106,7 @@ pub fn count(c: Console, out: &mut [u8], window: &[u64]) -> Console
 
 // ---- the state itself
 
-// Every word of a state, that of the run or of the day set; both stay.
+// Every word of a state, the console's own or its day set's; both stay.
 pub fn show(c: Console, out: &mut [u8], name: &[u8], s: Sampler) -> Console
     ensures { λ r. ⌜ Holds r (c .state) (c .day) ⌝ }
 {

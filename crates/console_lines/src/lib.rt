@@ -1,174 +1,23 @@
-// The console: standard input line by line, each line's call by its first word, and an answer for each. Each group of calls passes a first
-// word that it does not know on to the next.
+// The console's lines, one function each: it reads the line's numbers and makes the call.
 mod plain_lines;
 mod plan_lines;
 mod room_lines;
 
-use console_text::Console;
-use room_lines::Lent;
-ghost use Prim.Native.Nat.{_≤_};
-ghost use lib.ListN.{length};
+pub use plain_lines::blank;
+pub use plain_lines::count;
+pub use plain_lines::day;
+pub use plain_lines::poke;
+pub use plain_lines::second;
+pub use plain_lines::state;
+pub use plan_lines::open;
+pub use plan_lines::read;
+pub use plan_lines::write;
+pub use room_lines::Lent;
+pub use room_lines::jump;
+pub use room_lines::room;
 
-// What a call is about: the console's state, or its day set.
+// What a line is about: the console's state, or its day set.
 pub enum Held {
     State,
     DaySet,
-}
-
-// ---- the calls, by the first word
-
-// A line about the day set itself, or a first word that no call has.
-fn day_state_line(c: Console, out: &mut [u8], key: &[u8], rest: &[u8]) -> Console {
-    if check::same(key, b"daystate") {
-        return plain_lines::state(c, out, Held::DaySet, b"daystate alone", rest);
-    }
-    if check::same(key, b"daypoke") {
-        return plain_lines::poke(c, out, Held::DaySet, b"daypoke PLACE VALUE", rest);
-    }
-    if check::same(key, b"dayblank") {
-        return plain_lines::blank(c, out, Held::DaySet, b"dayblank alone", rest);
-    }
-    console_text::error(
-        c,
-        out,
-        b"read, write, open, jump, second, step, place, block, count, state, poke, blank, day, dayjump, daystep, dayblock, daycount, daystate, daypoke, dayblank or # as the first word",
-    )
-}
-
-// A line with a call about a day set, or another.
-fn day_line(c: Console, out: &mut [u8], key: &[u8], rest: &[u8]) -> Console {
-    if check::same(key, b"day") {
-        return plain_lines::day(c, out, rest);
-    }
-    if check::same(key, b"dayjump") {
-        return room_lines::jump(c, out, Held::DaySet, b"dayjump N ROOM", rest);
-    }
-    if check::same(key, b"daystep") {
-        return room_lines::line(c, out, Lent::DayStep, b"daystep ROOM", rest);
-    }
-    if check::same(key, b"dayblock") {
-        return room_lines::line(c, out, Lent::DayBlock, b"dayblock ROOM", rest);
-    }
-    if check::same(key, b"daycount") {
-        return plain_lines::count(c, out, Held::DaySet, b"daycount U Q U Q ..", rest);
-    }
-    day_state_line(c, out, key, rest)
-}
-
-// A line about the state itself, or another.
-fn state_line(c: Console, out: &mut [u8], key: &[u8], rest: &[u8]) -> Console {
-    if check::same(key, b"state") {
-        return plain_lines::state(c, out, Held::State, b"state alone", rest);
-    }
-    if check::same(key, b"poke") {
-        return plain_lines::poke(c, out, Held::State, b"poke PLACE VALUE", rest);
-    }
-    if check::same(key, b"blank") {
-        return plain_lines::blank(c, out, Held::State, b"blank alone", rest);
-    }
-    day_line(c, out, key, rest)
-}
-
-// A line with a call on a run or a window, or another.
-fn run_line(c: Console, out: &mut [u8], key: &[u8], rest: &[u8]) -> Console {
-    if check::same(key, b"step") {
-        return room_lines::line(c, out, Lent::Step, b"step ROOM", rest);
-    }
-    if check::same(key, b"place") {
-        return room_lines::line(c, out, Lent::Place, b"place ROOM", rest);
-    }
-    if check::same(key, b"block") {
-        return room_lines::line(c, out, Lent::Block, b"block ROOM", rest);
-    }
-    if check::same(key, b"count") {
-        return plain_lines::count(c, out, Held::State, b"count U Q U Q ..", rest);
-    }
-    state_line(c, out, key, rest)
-}
-
-// A line with a call on a plan or an index, or another.
-fn plan_line(c: Console, out: &mut [u8], key: &[u8], rest: &[u8]) -> Console
-    requires { ⌜ length (now rest) ≤ 1024 ⌝ }
-{
-    if check::same(key, b"read") {
-        return plan_lines::read(c, out, rest);
-    }
-    if check::same(key, b"write") {
-        return plan_lines::write(c, out, rest);
-    }
-    if check::same(key, b"open") {
-        return plan_lines::open(c, out, rest);
-    }
-    if check::same(key, b"jump") {
-        return room_lines::jump(c, out, Held::State, b"jump INDEX ROOM", rest);
-    }
-    if check::same(key, b"second") {
-        return plain_lines::second(c, out, rest);
-    }
-    run_line(c, out, key, rest)
-}
-
-// ---- the input
-
-// Answers a line's text; one with no words has no answer.
-fn text_line(c: Console, out: &mut [u8], text: &[u8]) -> Console
-    requires { ⌜ length (now text) ≤ 1024 ⌝ }
-{
-    let w = words::find(text, 0);
-    let start = w.start;
-    let end = w.end;
-    if start == end {
-        return c;
-    }
-    plan_line(c, out, &text[start..end], &text[end..])
-}
-
-// Answers the line that was read last.
-fn next_line(before: Console, out: &mut [u8], line: &[u8]) -> Console
-    requires { ⌜ 1024 ≤ length (now line) ⌝ }
-{
-    let mut c = before;
-    c.line = std::num::wrapping_add_u64(before.line, 1);
-    let l = c.lines;
-    if 1024 < l.size {
-        return console_text::error(c, out, b"at most 1024 bytes before a comment");
-    }
-    text_line(c, out, lines::text(l, line))
-}
-
-// After the last line: says if the input was not read to its end, and writes out what waits.
-fn finish(c: Console, out: &mut [u8]) {
-    let l = c.lines;
-    if l.is_broken {
-        let said = lines::put_between(
-            l,
-            out,
-            b"line ",
-            std::num::wrapping_add_u64(c.line, 1),
-            b": the input cannot be read to its end\n",
-        );
-        lines::finish(said, out);
-        return;
-    }
-    lines::finish(l, out);
-}
-
-// Answers standard input, line by line. A proved loop has to end, and nothing says that the input does: so the loop counts its turns down,
-// from a number that no run uses up.
-pub fn serve() {
-    let mut chunk = io::buffer();
-    let mut line = [0u8; 1024];
-    let mut out = io::buffer();
-    let mut c = console_text::start();
-    let mut turns = u64::MAX;
-    while turns > 0 {
-        let l = lines::next(c.lines, &mut chunk, &mut line, &out);
-        c = console_text::with_lines(c, l);
-        if l.is_over {
-            break;
-        }
-        c = next_line(c, &mut out, &line);
-        turns -= 1;
-    }
-    finish(c, &mut out);
 }

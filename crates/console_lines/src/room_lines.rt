@@ -48,7 +48,7 @@ fn lend(c: Console, out: &mut [u8], which: Lent, most: u64) -> Console {
 }
 
 // A line of a first word and ROOM.
-pub fn line(c: Console, out: &mut [u8], which: Lent, form: &[u8], rest: &[u8]) -> Console {
+pub fn room(c: Console, out: &mut [u8], which: Lent, form: &[u8], rest: &[u8]) -> Console {
     let mut n = [0u64; 1];
     let r = console_text::read_numbers(rest, &mut n);
     let Numbers::Read = r else {

@@ -2,8 +2,8 @@
 use borrow.Author.Needs.{needs}
 use mathlib.Core.Path.{_≡_}
 use lib.ListN.{length}
-use Rattle.console_lines.proofs.serve.Statement.{statement}
-use Rattle.console_lines.proofs.serve.Tie as tie
+use Rattle.console_io.proofs.serve.Statement.{statement}
+use Rattle.console_io.proofs.serve.Tie as tie
 
 abbrev Inv-loop : tie.InvT-loop
 Inv-loop chunk₀ line₀ out₀ c₀ turns₀ chunk line out c turns = (length chunk ≡ 4096) × (length line ≡ 1024) × (length out ≡ 4096)
