@@ -22,7 +22,7 @@ use Rattle.calls.proofs.CaseLaws.{run-cleared}
 use Rattle.calls.proofs.HistoryLaws.{test-iff, foreign-iff, none-15, Leaves, of-made, leaves-genuine, leaves-plan, none-opened, after-leaves, after-steps}
 use Rattle.day_set.specs.DaySet.{dayOf, dayRun, dayMade, dayPlan, daySize, dayTaken, dayWidth, genuineDay}
 use Rattle.day_set.specs.Calls.{foreignDay, makeSpec, dayJumpSpec, dayRunRefusals, dayStepSpec, dayBlockSize, dayBlockSpec}
-use Rattle.day_set.specs.History.{DayAfter, make, stepped, filled, sizeMade, DayAfterCalls}
+use Rattle.day_set.specs.History.{DayAfter, make, stepped, filled, DayAfterCalls}
 use Rattle.day_set.specs.Serving.{widthOf}
 use Rattle.day_set.specs.declared.DaySet.{DaySet}
 use Rattle.day_set.proofs.CaseLaws.{by-run, day-is}
@@ -55,10 +55,6 @@ module _ {bytes : List ℕ} {d : DaySet} (l : DayLeaves bytes d) where
   next taken h e =
       day-of-made (l .run .plan) (l .run .valid) (l .run .spelled) (daySize d) size-fits taken h
       (e ∙ ap (λ (p : Plan). dayMade p (daySize d) taken) (leaves-plan (l .run)))
-
-  pub day-leaves-is : d ≡ dayMade (l .run .plan) (daySize d) (dayTaken d)
-  unfolding dayMade
-  day-leaves-is = ap dayOf (l .run .is ∙ ap (λ (x : ℕ). made (l .run .plan) (runOf x (daySize d)) (dayTaken d)) (l .start))
 
 -- an accepted making
 pub make-leaves : {bytes : List ℕ} {s : Sampler} (l : Leaves bytes s) (N : ℕ) → makeSpec s N .code ≡ 0
@@ -110,14 +106,6 @@ day-after-iff d = (
       ap dayOf (ap (λ (x : ℕ). made (dayPlan d) (runOf x (daySize d)) (dayTaken d)) (sym (s .0)) ∙ sym (g .is)) in
       (spell (dayPlan d), subst (DayAfter (spell (dayPlan d))) is (day-after-steps (dayPlan d) (g .valid) (daySize d) fits (dayTaken d) (g .run .not-past))),
 )
-
--- ---- the size that the making was given
-
-pub size-made : {bytes : List ℕ} {d : DaySet} (h : DayAfter bytes d) → daySize d ≡ sizeMade h
-unfolding sizeMade dayStepSpec dayBlockSpec dayMade made
-size-made (make {s} h N z) = ap daySize (make-leaves (after-leaves h) N z .1)
-size-made (stepped {d} h buf z) = ap (λ (a : _). daySize (a .set)) (day-step-done d buf z .0) ∙ size-made h
-size-made (filled {d} h buf z) = ap (λ (a : _). daySize (a .set)) (day-block-done d buf z .0) ∙ size-made h
 
 -- ---- number 15
 

@@ -29,6 +29,7 @@ dayPoints p = joined (dayPoint p)
 abbrev pub dayRun : ℕ → Run
 dayRun N = runOf 0 N
 
+-- the day set that holds this sampler
 abbrev pub dayOf : Sampler → DaySet
 dayOf s = record { run = s }
 

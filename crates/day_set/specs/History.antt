@@ -17,12 +17,6 @@ pub data DayAfter (bytes : List ℕ) : DaySet → Type 0 where
   stepped : {d : DaySet} → DayAfter bytes d → (buf : List ℕ) → dayStepSpec d buf .code ≡ 0 → DayAfter bytes (dayStepSpec d buf .set)
   filled : {d : DaySet} → DayAfter bytes d → (buf : List ℕ) → dayBlockSpec d buf .code ≡ 0 → DayAfter bytes (dayBlockSpec d buf .set)
 
--- the size that the making was given
-unfoldable pub sizeMade : {bytes : List ℕ} {d : DaySet} → DayAfter bytes d → ℕ
-sizeMade (make h N z) = N
-sizeMade (stepped h buf z) = sizeMade h
-sizeMade (filled h buf z) = sizeMade h
-
 -- some accepted calls leave the day set
 abbrev pub DayAfterCalls : DaySet → Type 0
 DayAfterCalls d = (bytes : List ℕ) × DayAfter bytes d

@@ -11,6 +11,7 @@ use Rattle.day_set.specs.DaySet.{dayPoint}
 use Rattle.day_set.specs.Calls.{dayJumpSpec, dayJumpBuf, dayStepSpec, dayStepBuf, dayBlockSpec}
 use Rattle.day_set.specs.declared.DaySet.{DaySet}
 
+-- the words of a point: n, and one for each axis
 abbrev pub widthOf : Plan → ℕ
 widthOf p = suc (axisCount p)
 

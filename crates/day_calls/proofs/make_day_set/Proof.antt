@@ -1,6 +1,7 @@
 -- `day_calls::make_day_set` meets its contract: it is an opening from 0 on. Assumes nothing.
 use mathlib.Core.Path.{_≡_, refl, sym, ap, _∙_}
 use Prim.Native.Nat.{ℕ, zero, suc}
+use native.Mathlib.Omega.{arith}
 use borrow.Author.Needs.{needs}
 use Rattle.plan.specs.Order.{unlessNumber}
 use Rattle.calls.specs.declared.Moved.{Moved}
@@ -35,12 +36,12 @@ done a z = rw z refl
 returns : tie.Need-returns
 returns c =
     let o = c .before .before .before .«open» in
-    refused (o .result) (c .before .if1 .taken) _ (c .blank-day-set .ensures) ∙ ap answer (o .ensures) ∙ sym (make-wraps _ _)
+    refused (o .result) (λ z. omega arith) _ (c .blank-day-set .ensures) ∙ ap answer (o .ensures) ∙ sym (make-wraps _ _)
 
 returns-2 : tie.Need-returns-2
 returns-2 c =
     let o = c .before .before .before .«open» in
-    done (o .result) (c .before .if1 .left) ∙ ap answer (o .ensures) ∙ sym (make-wraps _ _)
+    done (o .result) (omega arith) ∙ ap answer (o .ensures) ∙ sym (make-wraps _ _)
 
 pub make-day-set-spec : {M : Type 1} → statement M
 make-day-set-spec = tie.close (tie.spec open-requires blank-day-set-requires returns returns-2)
