@@ -24,6 +24,10 @@ indexAt r i t = r .start + t
 unfoldable pub inRange : Run → Bool
 inRange r = leb (r .start + r .count) (2 ^ 32)
 
+-- its n steps from step t on, as a run of their own
+unfoldable pub partOf : Run → ℕ → ℕ → Run
+partOf r t n = runOf (r .start + t) n
+
 -- ---- its points
 
 -- the numerator of axis i at step t

@@ -1,0 +1,44 @@
+-- A run's axes in rows and a table of images, in some order of the axes. Definitions only.
+use mathlib.Core.Path.{_≡_}
+use mathlib.Core.List.{List}
+use Prim.Native.Nat.{ℕ, _+_, _*_, _^_, _<_}
+use lib.ListN.{length, getD}
+use Rattle.permutation.specs.Families.{imageOf}
+use Rattle.discrepancy.specs.Bound.{CutAxis, haltonAxes}
+use Rattle.window.specs.Counting.{cutAt}
+use Rattle.strips.specs.Classes.{baseIn, startIn, lIn, uIn, qIn, imageFrom}
+
+-- the axes of a run with a start for each axis and one stride, in the plan's order
+unfoldable pub runAxes : ℕ → List ℕ → List ℕ → ℕ → List ℕ → ℕ → CutAxis
+runAxes family bases starts r w =
+    haltonAxes (λ i. imageOf family (getD bases i 0)) (λ i. getD bases i 0) (λ i. getD starts i 0) r (λ i. cutAt w i .u) (λ i. cutAt w i .q)
+
+-- Row i was written: a base, a start, and the ends 0 and u / q. The rows before it stay.
+pub record RowPut (i base start u q : ℕ) (old new : List ℕ) : Type 0 where
+  pub long : length new ≡ length old
+  pub before : (j : ℕ) → j < 5 * i → getD new j 0 ≡ getD old j 0
+  pub base-is : baseIn new i ≡ base
+  pub start-is : startIn new i ≡ start
+  pub lower-is : lIn new i ≡ 0
+  pub upper-is : uIn new i ≡ u
+  pub whole-is : qIn new i ≡ q
+
+-- row i is that of the axis a: its base and start, and its cut as the upper end, over the lower end 0
+pub record RowAt (bases starts w rows : List ℕ) (i a : ℕ) : Type 0 where
+  pub base : baseIn rows i ≡ getD bases a 0
+  pub start : startIn rows i ≡ getD starts a 0
+  pub lower : lIn rows i ≡ 0
+  pub upper : uIn rows i ≡ cutAt w a .u
+  pub whole : qIn rows i ≡ cutAt w a .q
+
+-- the first s rows are those of the axes in the given order
+pub record Rowed (bases starts w order rows : List ℕ) (s : ℕ) : Type 0 where
+  pub at : (i : ℕ) → i < s → RowAt bases starts w rows i (getD order i 0)
+
+-- the table holds the images of the digits of s axes, 256 entries an axis, in the given order
+pub record Filled (family : ℕ) (bases order l : List ℕ) (s : ℕ) : Type 0 where
+  pub at : (i d : ℕ) → i < s → d < getD bases (getD order i 0) 0 → imageFrom l (256 * i) d ≡ imageOf family (getD bases (getD order i 0) 0) d
+
+-- what a run of k steps asks of its starts
+pub record Reached (starts : List ℕ) (s r k : ℕ) : Type 0 where
+  pub index : (i t : ℕ) → i < s → t < k → getD starts i 0 + r * t < 2 ^ 32

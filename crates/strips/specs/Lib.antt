@@ -1,0 +1,3 @@
+pub mod Strips
+pub mod Ends
+pub mod Classes
