@@ -140,6 +140,13 @@ module _ (l rows : List ℕ) where
   unfolding tableAxes
   axes-none t m k = sym (along-none _ _ _ _ _ _ t m k)
 
+  -- of s axes, where s is 0, and where it is one more than another number
+  pub axes-last : (t m k : ℕ) {s : ℕ} → s ≡ 0 → k ≡ count (insideAlong (tableAxes l rows) s t m) k
+  axes-last t m k e = axes-none t m k ∙ ap (λ (j : ℕ). count (insideAlong (tableAxes l rows) j t m) k) (sym e)
+
+  pub axes-same : (t m k : ℕ) {s : ℕ} → 0 < s → count (insideAlong (tableAxes l rows) (s - 1 + 1) t m) k ≡ count (insideAlong (tableAxes l rows) s t m) k
+  axes-same t m k {s} h = ap (λ (j : ℕ). count (insideAlong (tableAxes l rows) j t m) k) {x = s - 1 + 1} {y = s} (omega arith)
+
   -- a class of one step
   pub axes-one : (s t m : ℕ) {k : ℕ} → k ≡ 1 → bit (insideEnds (tableAxes l rows) s t) ≡ count (insideAlong (tableAxes l rows) s t m) k
   unfolding insideAlong
