@@ -1,0 +1,2 @@
+-- Laws of the strips.
+pub mod StripLaws
