@@ -2,3 +2,4 @@
 pub mod CaseLaws
 pub mod Demand3
 pub mod PartLaws
+pub mod StripLaws
