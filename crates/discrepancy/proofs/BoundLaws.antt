@@ -15,7 +15,7 @@ use Rattle.numbers.proofs.DepthLaws.{depth-covers}
 use Rattle.discrepancy.specs.Bound.{CutAxis, inCut, inside, factor, bound, baseOf, uOf, qOf, Near, Sound, SoundAxes, haltonAxes, HaltonRun}
 use Rattle.discrepancy.proofs.FairLaws.{Fair, fair-none, fair-near, fair-axis}
 
-invertible : (m b : ℕ) → Coprime m b → Invertible m b
+pub invertible : (m b : ℕ) → Coprime m b → Invertible m b
 invertible m b c = gcd-one-iff-invertible m b .0 (gcd-one-iff-coprime m b .1 c)
 
 -- an axis's depth covers the number of steps

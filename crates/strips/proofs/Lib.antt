@@ -1,2 +1,3 @@
 -- Laws of the strips.
 pub mod StripLaws
+pub mod CombinationLaws

@@ -53,7 +53,7 @@ count-cond z false N = count-none (λ t. z t && false) N (λ t. and-false (z t))
 -- ---- strips
 
 -- two digits of base m, the lower one first below m
-eq-digits : (x y m r a : ℕ) → r < m → a < m → eqb (x * m + r) (y * m + a) ≡ eqb x y && eqb r a
+pub eq-digits : (x y m r a : ℕ) → r < m → a < m → eqb (x * m + r) (y * m + a) ≡ eqb x y && eqb r a
 eq-digits x y m r a hr ha = go (eq-or-ne x y)
   where
     go : (x ≡ y) ⊎ (x ≡ y → ⊥) → eqb (x * m + r) (y * m + a) ≡ eqb x y && eqb r a
@@ -113,6 +113,7 @@ module _ {σ : ℕ → ℕ} {b : ℕ} (π : Permutes b σ) where
     abbrev stepsIn : Strip → ℕ
     stepsIn c = count (λ t. inStrip c (x t) && p t) N
 
+    -- those within a strip c, with k digits left of the cut: by the digits above c's own
     strips-within : (k u : ℕ) (c : Strip) → u ≤ q → c .residue < c .modulus
         → sumStrips σ b q k u c stepsIn ≡ count (λ t. (inStrip c (x t) && p t) && indexInCut σ b k u q (x t / c .modulus)) N
     unfolding sumStrips belowCut narrowed
