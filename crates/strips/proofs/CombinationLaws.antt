@@ -1,27 +1,28 @@
 -- The steps in all strips of a combination are one residue class: the stride and the bases being coprime, each axis more leaves one class of a
--- class, and how many of N steps it has is a quotient. Assumes nothing.
-use mathlib.Core.Path.{_≡_, refl, sym, ap, _∙_}
+-- class. How many of N steps a class has is a quotient, and over all combinations these add up to the number of points inside. Assumes nothing.
+use mathlib.Core.Path.{_≡_, refl, sym, ap, ap₂, _∙_}
 use mathlib.Core.Logic.{_⊎_, inl, inr}
-use mathlib.Core.Bool.{Bool, true, _&&_, and-true, and-false}
+use mathlib.Core.Bool.{Bool, true, cond, _&&_, and-true, and-false, and-comm}
 use Prim.Native.Nat.{ℕ, zero, suc, _+_, _-_, _*_, _/_, _%_, _^_, _<_}
-use native.Mathlib.Nat.{le-refl, mul-comm, mod-one, mod-lt, mod-add-div, pow-zero, pow-suc}
+use native.Mathlib.Nat.{le-refl, mul-comm, mul-zero, mul-one, mod-one, mod-lt, mod-eq-of-lt, mod-add-div, pow-zero, pow-suc, eq-one-of-dvd-one}
 use native.Mathlib.Omega.{arith}
-use lib.Dec.{eqb}
+use lib.Dec.{ltb, eqb}
 use lib.Arith.{digits-lt, digits-div, mod-mul}
 use borrow.Author.Tests.{eq-eqb, ne-eqb}
 use Rattle.numbers.specs.Gcd.{Coprime, Invertible}
 use Rattle.numbers.specs.Digits.{productTo}
-use Rattle.numbers.specs.Count.{count, each}
+use Rattle.numbers.specs.Count.{bit, count, each}
 use Rattle.numbers.proofs.Cases.{eq-or-ne, eq-iff}
 use Rattle.numbers.proofs.GcdLaws.{gcd-one-iff-coprime}
 use Rattle.numbers.proofs.InverseLaws.{invertible-one, invertible-mul, gcd-one-iff-invertible, Solved, solve}
+use Rattle.numbers.proofs.DigitLaws.{sum-ext}
 use Rattle.numbers.proofs.CountLaws.{count-ext, count-all}
-use Rattle.discrepancy.specs.Bound.{CutAxis, indexAt, Sound, SoundAxes}
-use Rattle.discrepancy.proofs.BoundLaws.{invertible}
+use Rattle.discrepancy.specs.Bound.{CutAxis, indexAt, inside, Sound, SoundAxes}
+use Rattle.discrepancy.proofs.BoundLaws.{invertible, fewer}
 use Rattle.discrepancy.proofs.ThinLaws.{Thinned, thin}
-use Rattle.strips.specs.Strips.{Strip, inStrip, StripOf, inCombination, modulusOf, Class}
+use Rattle.strips.specs.Strips.{Strip, everything, inStrip, narrowed, sumStrips, axisStrips, sumCombinations, joint, sumClasses, StripOf, inCombination, modulusOf, Class}
 use Rattle.strips.specs.Classes.{classSize}
-use Rattle.strips.proofs.StripLaws.{eq-digits}
+use Rattle.strips.proofs.StripLaws.{sum-one, eq-digits, narrowed-proper, combinations-add-up}
 
 -- ---- coprime powers
 
@@ -29,9 +30,11 @@ invertible-pow : {a b : ℕ} → Invertible a b → (j : ℕ) → Invertible (a 
 invertible-pow {a} {b} v zero = rw pow-zero (invertible-one b)
 invertible-pow {a} {b} v (suc j) = rw (pow-suc a j) (invertible-mul (invertible-pow v j) v)
 
+coprime-of : {a b : ℕ} → Invertible a b → Coprime a b
+coprime-of {a} {b} v = gcd-one-iff-coprime a b .0 (gcd-one-iff-invertible a b .1 v)
+
 coprime-pow : {a b : ℕ} → Coprime a b → (j : ℕ) → Coprime a (b ^ j)
-coprime-pow {a} {b} c j d p q =
-    gcd-one-iff-coprime (b ^ j) a .0 (gcd-one-iff-invertible (b ^ j) a .1 (invertible-pow (invertible b a (λ e l m. c e m l)) j)) d q p
+coprime-pow {a} {b} c j d p q = coprime-of (invertible-pow (invertible b a (λ e l m. c e m l)) j) d q p
 
 -- ---- one axis more
 
@@ -68,6 +71,22 @@ join {M} {ρ} low a c proper v w =
         index = ap (λ (x : ℕ). x % m) (omega (arith, ap (λ (x : ℕ). a .stride * x) (sym (mod-add-div t M)), ap (λ (x : ℕ). a .stride * x) e))
     same t (inr f) = rw (ne-eqb (t % M) ρ f) (sym (and-false (eqb (t / M % m) (z .root))))
 
+-- ---- the size of a class
+
+-- how many of N steps a class has
+pub class-size : (M root N : ℕ) → root < M → count (λ t. eqb (t % M) root) N ≡ classSize M N root
+unfolding classSize
+class-size M root N h =
+    count-ext (λ t. eqb (t % M) root) (λ t. eqb (t % M) root && true) N (λ t l. sym (and-true (eqb (t % M) root)))
+    ∙ z .counts (λ t. true) ∙ count-all (z .size)
+    ∙ sym (ap (λ (x : ℕ). x / M) whole ∙ digits-div (z .size) {m = M} {r = N + (M - 1 - root) - z .size * M} (omega (arith, z .low)))
+  where
+    z : Thinned M root N
+    z = thin M root h N
+
+    whole : N + (M - 1 - root) ≡ z .size * M + (N + (M - 1 - root) - z .size * M)
+    whole = omega (arith, z .high)
+
 -- ---- a combination
 
 -- a stride is coprime to the moduli of its axis's strips
@@ -95,10 +114,7 @@ module _ (ax : ℕ → CutAxis) (c : ℕ → Strip) where
   pub one-class : {N : ℕ} (s : ℕ) → SoundAxes N ax s → ((i : ℕ) → i < s → StripOf (ax i) (c i)) → Class ax c s
   unfolding inCombination each productTo
   one-class zero z k = record { root = 0; below = le-refl 1; steps = λ t. rw (mod-one t) refl }
-  one-class (suc s) z k =
-      more
-      (one-class s (record { sound = λ i l. z .sound i (omega arith); coprime = λ i j l m. z .coprime i j l (omega arith) })
-      (λ i l. k i (omega arith)))
+  one-class (suc s) z k = more (one-class s (fewer s z) (λ i l. k i (omega arith)))
     where
       last : StripOf (ax s) (c s)
       last = k s (le-refl (suc s))
@@ -116,25 +132,84 @@ module _ (ax : ℕ → CutAxis) (c : ℕ → Strip) where
               join (h .below) (ax s) (c s) (last .proper) (stride-apart (z .sound s (le-refl (suc s))) last)
               (moduli-apart last s (λ i l. z .coprime s i l (le-refl (suc s))) (λ i l. k i (omega arith)))
 
--- ---- its size
-
--- how many of N steps a class has
-pub class-size : (M root N : ℕ) → root < M → count (λ t. eqb (t % M) root) N ≡ classSize M N root
-unfolding classSize
-class-size M root N h =
-    count-ext (λ t. eqb (t % M) root) (λ t. eqb (t % M) root && true) N (λ t l. sym (and-true (eqb (t % M) root)))
-    ∙ z .counts (λ t. true) ∙ count-all (z .size)
-    ∙ sym (ap (λ (x : ℕ). x / M) whole ∙ digits-div (z .size) {m = M} {r = N + (M - 1 - root) - z .size * M} (omega (arith, z .low)))
-  where
-    z : Thinned M root N
-    z = thin M root h N
-
-    whole : N + (M - 1 - root) ≡ z .size * M + (N + (M - 1 - root) - z .size * M)
-    whole = omega (arith, z .high)
-
 -- of a combination
 pub combination-size : {ax : ℕ → CutAxis} {c : ℕ → Strip} {s : ℕ} (k : Class ax c s) (N : ℕ)
     → count (inCombination ax c s) N ≡ classSize (productTo (modulusOf c) s) N (k .root)
 combination-size {ax} {c} {s} k N =
     count-ext (inCombination ax c s) (λ t. eqb (t % productTo (modulusOf c) s) (k .root)) N (λ t l. k .steps t)
     ∙ class-size (productTo (modulusOf c) s) (k .root) N (k .below)
+
+-- ---- all combinations
+
+everything-of : (a : CutAxis) → StripOf a everything
+everything-of a = record { digits = 0; modulus-is = sym (pow-zero (a .base)); proper = le-refl 1 }
+
+module _ {N : ℕ} {a : CutAxis} (z : Sound N a) where
+  narrowed-of : {c : Strip} → StripOf a c → (d : ℕ) → StripOf a (narrowed (a .image) (a .base) c d)
+  narrowed-of {c} k d =
+      record {
+        digits = suc (k .digits);
+        modulus-is = unfold narrowed in ap (λ (x : ℕ). x * a .base) (k .modulus-is) ∙ sym (pow-suc (a .base) (k .digits));
+        proper = narrowed-proper (z .permutes) (omega (arith, z .base-big)) c (k .proper) d;
+      }
+
+  -- a sum over the strips of an axis's cut looks at strips of the axis only
+  strips-agree : (f g : Strip → ℕ) → ((c : Strip) → StripOf a c → f c ≡ g c) → (k u : ℕ) (c : Strip) → StripOf a c
+      → sumStrips (a .image) (a .base) (a .q) k u c f ≡ sumStrips (a .image) (a .base) (a .q) k u c g
+  unfolding sumStrips
+  strips-agree f g same zero u c h = ap (λ (x : ℕ). cond (ltb 0 u) x 0) (same c h)
+  strips-agree f g same (suc k) u c h =
+      ap₂ _+_ (sum-ext _ _ (u * a .base / a .q) (λ d l. same (narrowed (a .image) (a .base) c d) (narrowed-of h d)))
+      (strips-agree f g same k (u * a .base % a .q) (narrowed (a .image) (a .base) c (u * a .base / a .q)) (narrowed-of h (u * a .base / a .q)))
+
+-- the residue of a joined class is the only step of it below its modulus
+joint-is : {M ρ : ℕ} {a : CutAxis} {c : Strip} (j : Joined M ρ a c) → joint a M ρ c ≡ j .root
+unfolding joint
+joint-is {M} {ρ} {a} {c} j =
+    sum-one (λ t. t * bit (eqb (t % M) ρ && inStrip c (indexAt a t))) (M * c .modulus) (j .root) (j .below) other
+    ∙ rw (j .steps (j .root), mod-eq-of-lt (j .below), eq-eqb (j .root) (j .root) refl) (mul-one (j .root))
+  where
+    other : (t : ℕ) → t < M * c .modulus → (t ≡ j .root → ⊥) → t * bit (eqb (t % M) ρ && inStrip c (indexAt a t)) ≡ 0
+    other t l ne = rw (j .steps t, mod-eq-of-lt l, ne-eqb t (j .root) ne) (mul-zero t)
+
+module _ {N : ℕ} {ax : ℕ → CutAxis} where
+  -- within a class whose modulus is coprime to all bases
+  classes-count : (s : ℕ) → SoundAxes N ax s → (M ρ : ℕ) → ρ < M → ((i : ℕ) → i < s → Coprime M (ax i .base))
+      → sumClasses ax N s M ρ ≡ sumCombinations ax N s (λ t. eqb (t % M) ρ)
+  unfolding sumClasses sumCombinations axisStrips
+  classes-count zero z M ρ low apart = sym (class-size M ρ N low)
+  classes-count (suc s) z M ρ low apart =
+      strips-agree (z .sound s (le-refl (suc s))) _ _ (λ c k. one c k (classes-count s (fewer s z) (M * c .modulus)))
+      (ax s .depth) (ax s .u) everything (everything-of (ax s))
+    where
+      one : (c : Strip) → StripOf (ax s) c
+          → ((ρ′ : ℕ) → ρ′ < M * c .modulus → ((i : ℕ) → i < s → Coprime (M * c .modulus) (ax i .base))
+          → sumClasses ax N s (M * c .modulus) ρ′ ≡ sumCombinations ax N s (λ t. eqb (t % (M * c .modulus)) ρ′))
+          → sumClasses ax N s (M * c .modulus) (joint (ax s) M ρ c) ≡ sumCombinations ax N s (λ t. inStrip c (indexAt (ax s) t) && eqb (t % M) ρ)
+      one c k before =
+          ap (sumClasses ax N s (M * c .modulus)) (joint-is j)
+          ∙ before (j .root) (j .below) wider
+          ∙ ap (sumCombinations ax N s) (λ i t. same t i)
+        where
+          j : Joined M ρ (ax s) c
+          j =
+              join low (ax s) c (k .proper) (stride-apart (z .sound s (le-refl (suc s))) k)
+              (rw (k .modulus-is) (invertible M (ax s .base ^ k .digits) (coprime-pow (apart s (le-refl (suc s))) (k .digits))))
+
+          same : (t : ℕ) → eqb (t % (M * c .modulus)) (j .root) ≡ inStrip c (indexAt (ax s) t) && eqb (t % M) ρ
+          same t = sym (j .steps t) ∙ and-comm (eqb (t % M) ρ) (inStrip c (indexAt (ax s) t))
+
+          wider : (i : ℕ) → i < s → Coprime (M * c .modulus) (ax i .base)
+          wider i l =
+              coprime-of (invertible-mul (invertible M (ax i .base) (apart i (omega arith)))
+              (rw (k .modulus-is) (invertible-pow (invertible (ax s .base) (ax i .base) (z .coprime s i l (le-refl (suc s)))) (k .digits))))
+
+  -- the sizes of the classes of all combinations add up to the number of points inside
+  pub classes-add-up : (s : ℕ) → SoundAxes N ax s → sumClasses ax N s 1 0 ≡ count (inside ax s) N
+  classes-add-up s z =
+      classes-count s z 1 0 (le-refl 1) (λ i l d p q. eq-one-of-dvd-one p)
+      ∙ ap (sumCombinations ax N s) (λ j t. whole t j)
+      ∙ combinations-add-up N ax s (z .sound)
+    where
+      whole : (t : ℕ) → eqb (t % 1) 0 ≡ true
+      whole t = rw (mod-one t) refl

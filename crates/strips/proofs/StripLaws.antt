@@ -12,7 +12,7 @@ use borrow.Author.Tests.{eq-eqb, ne-eqb}
 use Rattle.numbers.specs.Digits.{sum}
 use Rattle.numbers.specs.Count.{bit, count, each}
 use Rattle.numbers.specs.Cut.{belowCut}
-use Rattle.numbers.proofs.Cases.{eq-or-ne, eq-iff}
+use Rattle.numbers.proofs.Cases.{eq-or-ne, eq-iff, lt-or-ge}
 use Rattle.numbers.proofs.DigitLaws.{sum-ext}
 use Rattle.numbers.proofs.NumeratorLaws.{numerator-none}
 use Rattle.numbers.proofs.CountLaws.{count-ext, count-split, count-none}
@@ -29,7 +29,7 @@ sum-none f zero h = refl
 sum-none f (suc k) h = rw (sum-none f k (λ j l. h j (omega arith)), h k (le-refl (suc k))) refl
 
 -- one term alone is not 0
-sum-one : (f : ℕ → ℕ) (k i : ℕ) → i < k → ((j : ℕ) → j < k → (j ≡ i → ⊥) → f j ≡ 0) → sum f k ≡ f i
+pub sum-one : (f : ℕ → ℕ) (k i : ℕ) → i < k → ((j : ℕ) → j < k → (j ≡ i → ⊥) → f j ≡ 0) → sum f k ≡ f i
 unfolding sum
 sum-one f zero i l h = absurd (omega arith)
 sum-one f (suc k) i l h = go (eq-or-lt-of-le (le-of-suc-le-suc l)) (λ m. sum-one f k i m (λ j n. h j (omega arith)))
@@ -82,12 +82,25 @@ module _ {σ : ℕ → ℕ} {b : ℕ} (π : Permutes b σ) where
       other : (j : ℕ) → j < b → (j ≡ π .inverse d → ⊥) → j * bit (eqb (σ j) d) ≡ 0
       other j l ne = rw (ne-eqb (σ j) d (λ e. ne (sym (π .back j l) ∙ ap (π .inverse) e))) (mul-zero j)
 
-  module _ (c : Strip) (proper : c .residue < c .modulus) (d : ℕ) (h : d < b) where
-    -- a residue below its modulus stays so
-    pub narrowed-proper : narrowed σ b c d .residue < narrowed σ b c d .modulus
-    unfolding narrowed
-    narrowed-proper = rw (digit-for d h) (omega (arith, digits-lt (π .inverse-below d h) proper))
+  -- also where no digit has the image d
+  digit-for-below : 0 < b → (d : ℕ) → digitFor σ b d < b
+  digit-for-below pos d = go (lt-or-ge d b)
+    where
+      none : b ≤ d → digitFor σ b d ≡ 0
+      none g =
+          unfold digitFor in
+          sum-none (λ x. x * bit (eqb (σ x) d)) b (λ j l. rw (ne-eqb (σ j) d (λ e. omega (arith, π .below j l))) (mul-zero j))
 
+      go : (d < b) ⊎ (b ≤ d) → digitFor σ b d < b
+      go (inl h) = rw (digit-for d h) (π .inverse-below d h)
+      go (inr g) = rw (none g) pos
+
+  -- a residue below its modulus stays so
+  pub narrowed-proper : 0 < b → (c : Strip) → c .residue < c .modulus → (d : ℕ) → narrowed σ b c d .residue < narrowed σ b c d .modulus
+  unfolding narrowed
+  narrowed-proper pos c proper d = omega (arith, digits-lt (digit-for-below pos d) proper)
+
+  module _ (c : Strip) (proper : c .residue < c .modulus) (d : ℕ) (h : d < b) where
     -- an index in the narrower strip is in the wider one, and its next digit has the image d
     pub in-narrowed : (n : ℕ) → inStrip (narrowed σ b c d) n ≡ eqb (σ (n / c .modulus % b)) d && inStrip c n
     unfolding narrowed inStrip
@@ -122,7 +135,7 @@ module _ {σ : ℕ → ℕ} {b : ℕ} (π : Permutes b σ) where
     strips-within (suc k) u c hu proper =
         ap₂ _+_ (sum-ext (λ e. stepsIn (narrowed σ b c e)) (λ e. count (λ t. eqb (d t) e && z t) N) C first ∙ sym (digits-below d z N C))
         (rest-of (eq-or-lt-of-le C-le)
-        (λ l. strips-within k rest (narrowed σ b c C) (le-of-lt (mod-lt (u * b) q-pos)) (narrowed-proper c proper C l)))
+        (λ l. strips-within k rest (narrowed σ b c C) (le-of-lt (mod-lt (u * b) q-pos)) (narrowed-proper pos c proper C)))
         ∙ sym split
       where
         -- the cut's own digit, and its rest

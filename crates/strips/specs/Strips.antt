@@ -7,6 +7,7 @@ use lib.Dec.{ltb, eqb}
 use Rattle.numbers.specs.Digits.{sum, productTo}
 use Rattle.numbers.specs.Count.{bit, count, each}
 use Rattle.discrepancy.specs.Bound.{CutAxis, indexAt}
+use Rattle.strips.specs.Classes.{classSize}
 
 -- A strip: the fractions with the same leading digits. Their indexes are those that leave the residue modulo b^j, j being the number of digits.
 pub record Strip : Type 0 where
@@ -45,6 +46,17 @@ axisStrips a f = sumStrips (a .image) (a .base) (a .q) (a .depth) (a .u) everyth
 unfoldable pub sumCombinations : (ℕ → CutAxis) → ℕ → ℕ → (ℕ → Bool) → ℕ
 sumCombinations ax N zero p = count p N
 sumCombinations ax N (suc s) p = axisStrips (ax s) (λ c. sumCombinations ax N s (λ t. inStrip c (indexAt (ax s) t) && p t))
+
+-- ---- the class counts
+
+-- The steps that leave the residue r modulo m and lie in the strip c of the axis a are one class again, modulo m × c's modulus: its residue.
+unfoldable pub joint : CutAxis → ℕ → ℕ → Strip → ℕ
+joint a m r c = sum (λ t. t * bit (eqb (t % m) r && inStrip c (indexAt a t))) (m * c .modulus)
+
+-- The sum, over the same combinations within the class of r modulo m, of the sizes of their classes, of N steps.
+unfoldable pub sumClasses : (ℕ → CutAxis) → ℕ → ℕ → ℕ → ℕ → ℕ
+sumClasses ax N zero m r = classSize m N r
+sumClasses ax N (suc s) m r = axisStrips (ax s) (λ c. sumClasses ax N s (m * c .modulus) (joint (ax s) m r c))
 
 -- ---- the class of one combination
 
