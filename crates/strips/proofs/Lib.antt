@@ -1,4 +1,6 @@
+pub mod StripLaws
 pub mod SizeLaws
+pub mod CombinationLaws
 pub mod RestLaws
 pub mod ClassLaws
 pub mod TableLaws
