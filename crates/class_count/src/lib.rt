@@ -136,7 +136,7 @@ fn rest_behind(q: u64, d: u64, c: u64, rest: u64) -> u64
 
 // The first digit whose strip lies wholly above the lower end, which has the digit `from` and the rest `left`.
 fn first_whole(from: u64, left: u64) -> u64
-    requires { ⌜ from ≤ 256 ⌝ }
+    requires { ⌜ from ≤ 2 ^ 32 ⌝ }
     ensures { λ r. ⌜ r ≡ from + bit (ltb 0 left) ⌝ }
 {
     if 0 < left { from + 1 } else { from }

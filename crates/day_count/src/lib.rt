@@ -20,7 +20,7 @@ fn day_bound(family: u64, bound: u64) -> u64
 }
 
 // How many points of the whole day set are inside the window `w`, which has u and q for the leading axis and for each axis of the plan in turn;
-// and the bound. The leading cut takes the first points, and only these are walked. It moves nothing.
+// and the bound. The leading cut takes the first points, and only these are counted, by strips where that is faster. It moves nothing.
 pub fn day_count(d: DaySet, w: &[u64]) -> Counted
     ensures { λ r. ⌜ r ≡ dayCountSpec d (now (w .entry)) ⌝ }
 {
@@ -46,7 +46,7 @@ pub fn day_count(d: DaySet, w: &[u64]) -> Counted
         return window_count::refused(refusal::BAD_WINDOW);
     }
     let first = inside_count::cut_limit(w[0], w[1], s.count);
-    let inside = inside_count::count_inside(
+    let inside = strip_count::count_inside(
         s.family,
         axes,
         &s.bases,

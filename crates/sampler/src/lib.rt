@@ -26,4 +26,5 @@ pub use state::Sampler;
 pub use state::blank_state;
 pub use window_count::Counted;
 pub use window_count::count;
+pub use window_count::count_by_strips;
 pub use writer::PlanWritten;
