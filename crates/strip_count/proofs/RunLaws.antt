@@ -1,6 +1,6 @@
 -- A run of a plan's axes, held in rows and a table of images in some order: its steps are one class, and as many of them are inside as of the run.
 -- Assumes nothing.
-use mathlib.Core.Path.{_≡_, sym, ap, _∙_}
+use mathlib.Core.Path.{_≡_, refl, ap, _∙_}
 use mathlib.Core.Bool.{Bool}
 use mathlib.Core.List.{List}
 use Prim.Native.Nat.{ℕ, _+_, _*_, _^_, _<_, _≤_}
@@ -97,20 +97,22 @@ module _ {bases starts w order rows : List ℕ} {s : ℕ} (row : Rowed bases sta
 
 -- ---- one start for every axis, and stride 1
 
-module _ {starts : List ℕ} {s n : ℕ} (one : (i : ℕ) → i < s → getD starts i 0 ≡ n) where
+module _ (starts : List ℕ) (s n : ℕ) (one : (i : ℕ) → i < s → getD starts i 0 ≡ n) where
   pub one-reached : {k : ℕ} → n + k ≤ 2 ^ 32 → Reached starts s 1 k
   one-reached h = record { low = λ t l. omega arith; index = λ i t b l. omega (arith, one i b) }
 
   -- such a run is the one that is walked
   pub one-start : (family : ℕ) (bases vs w : List ℕ) → (family ≡ 2 → ⊥) → (k : ℕ)
       → count (inside (runAxes family bases starts 1 w) s) k ≡ count (insideFrom family bases vs w s n) k
-  unfolding inside insideFrom
+  unfolding inside insideFrom inCut runAxes haltonAxes axisInsideBy numerator denominator
   one-start family bases vs w halton k =
       count-ext (inside (runAxes family bases starts 1 w) s) (insideFrom family bases vs w s n) k
       (λ t h. each-ext (axisIn (runAxes family bases starts 1 w) t) (axisInsideBy family bases vs w (n + t)) s (axis t))
     where
       axis : (t i : ℕ) → i < s → axisIn (runAxes family bases starts 1 w) t i ≡ axisInsideBy family bases vs w (n + t) i
-      axis t i b = ?
+      axis t i b =
+          let index : n + 1 * t ≡ n + t = omega arith in
+          rw (← numerator-by-base family bases vs (n + t) i halton, ← denominator-by-base family bases i halton, one i b, index) refl
 
 pub arrays-bases : {family axes : ℕ} {bases vs : List ℕ} → Arrays family axes bases vs → (family ≡ 2 → ⊥) → Bases axes bases
 arrays-bases a f =

@@ -1,94 +1,103 @@
+-- `strip_count::put_rows` meets its contract: the rows of the first i axes are there. Assumes nothing.
+use mathlib.Core.Path.{_≡_, refl, subst, _∙_}
+use Prim.Native.Nat.{ℕ, _+_, _-_, _*_, _≤_, _<_}
+use native.Mathlib.Omega.{arith}
+use lib.ListN.{length, getD}
+use Rattle.strip_count.specs.Rows.{Rowed}
+use Rattle.strip_count.proofs.RowLaws.{rowed-none, rowed-more}
 use Rattle.strip_count.proofs.put_rows.Statement.{statement}
 use Rattle.strip_count.proofs.put_rows.Tie as tie
-use Rattle.strip_count.proofs.put_rows.Reads as reads
-use Rattle.strip_count.proofs.put_rows.Lts as lts
-use Rattle.strip_count.proofs.put_row.Reads as put-row-reads
 
 abbrev Inv-loop : tie.InvT-loop
-Inv-loop axes bases starts w order rows₀ i₀ rows i = ?
+Inv-loop axes bases starts w order rows₀ i₀ rows i = (i ≤ axes) × (length rows ≡ length rows₀) × Rowed bases starts w order rows i
 
 abbrev μ-loop : tie.MeasureT-loop
-μ-loop axes bases starts w order rows₀ i₀ rows i = ?
+μ-loop axes bases starts w order rows₀ i₀ rows i = axes - i
 
--- src/lib.rt:31:5
+-- the axis that is next in the order, and its numbers, stand in the arrays
+room : (c : tie.In-loop Inv-loop μ-loop)
+    → let g = c .before .before .before .before .before .before .before .args in
+    let i = c .before .loop .i in
+    let a = getD (g .order .now) i 0 in
+    (i < length (g .order .now)) × (i ≤ 5) × (a ≤ 5) × (a < length (g .bases .now)) × (a < length (g .starts .now)) × (2 * a + 1 < length (g .w .now))
+room c =
+    let s = c .before .before .before .before .before .before .before in
+    let i = c .before .loop .i in
+    let low = s .pre .4 .low i (omega arith) in (
+      omega arith,
+      omega (arith, s .pre .0 .few),
+      omega (arith, s .pre .0 .few, low),
+      omega (arith, s .pre .0 .long, low),
+      omega (arith, low),
+      omega (arith, s .pre .2 .enough, low),
+    )
+
 loop-holds : tie.Need-loop-holds Inv-loop μ-loop
-loop-holds c = ?
+loop-holds c = (omega arith, refl, rowed-none _ _ _ _ _)
 
--- src/lib.rt:32:17
 mul-a : tie.Need-mul-a Inv-loop μ-loop
-mul-a c = ?
+mul-a c = omega (arith, room c)
 
--- src/lib.rt:32:17
 shared-slice-read-a : tie.Need-shared-slice-read-a Inv-loop μ-loop
-shared-slice-read-a c = ?
+shared-slice-read-a c = omega (arith, room (c .before))
 
--- src/lib.rt:33:26
 mul-put-row : tie.Need-mul-put-row Inv-loop μ-loop
-mul-put-row c = ?
+mul-put-row c = omega (arith, room (c .before .before))
 
--- src/lib.rt:33:26
 shared-slice-read-put-row : tie.Need-shared-slice-read-put-row Inv-loop μ-loop
-shared-slice-read-put-row c = ?
+shared-slice-read-put-row c = omega (arith, room (c .before .before .before))
 
--- src/lib.rt:33:36
 mul-put-row-2 : tie.Need-mul-put-row-2 Inv-loop μ-loop
-mul-put-row-2 c = ?
+mul-put-row-2 c = omega (arith, room (c .before .before .before))
 
--- src/lib.rt:33:36
 shared-slice-read-put-row-2 : tie.Need-shared-slice-read-put-row-2 Inv-loop μ-loop
-shared-slice-read-put-row-2 c = ?
+shared-slice-read-put-row-2 c = omega (arith, room (c .before .before .before .before))
 
--- src/lib.rt:33:49
 mul-put-row-3 : tie.Need-mul-put-row-3 Inv-loop μ-loop
-mul-put-row-3 c = ?
+mul-put-row-3 c = omega (arith, room (c .before .before .before .before))
 
--- src/lib.rt:33:47
 mul-put-row-4 : tie.Need-mul-put-row-4 Inv-loop μ-loop
-mul-put-row-4 c = ?
+mul-put-row-4 c = omega (arith, room (c .before .before .before .before))
 
--- src/lib.rt:33:47
 shared-slice-read-put-row-3 : tie.Need-shared-slice-read-put-row-3 Inv-loop μ-loop
-shared-slice-read-put-row-3 c = ?
+shared-slice-read-put-row-3 c = omega (arith, room (c .before .before .before .before .before))
 
--- src/lib.rt:33:59
 mul-put-row-5 : tie.Need-mul-put-row-5 Inv-loop μ-loop
-mul-put-row-5 c = ?
+mul-put-row-5 c = omega (arith, room (c .before .before .before .before .before))
 
--- src/lib.rt:33:59
 add-put-row : tie.Need-add-put-row Inv-loop μ-loop
-add-put-row c = ?
+add-put-row c = omega (arith, room (c .before .before .before .before .before))
 
--- src/lib.rt:33:57
 mul-put-row-6 : tie.Need-mul-put-row-6 Inv-loop μ-loop
-mul-put-row-6 c = ?
+mul-put-row-6 c = omega (arith, room (c .before .before .before .before .before))
 
--- src/lib.rt:33:57
 shared-slice-read-put-row-4 : tie.Need-shared-slice-read-put-row-4 Inv-loop μ-loop
-shared-slice-read-put-row-4 c = ?
+shared-slice-read-put-row-4 c = omega (arith, room (c .before .before .before .before .before .before))
 
--- src/lib.rt:33:9
 put-row-requires : tie.Need-put-row-requires Inv-loop μ-loop
-put-row-requires c κs = ?
+put-row-requires c κs = omega (arith, room (c .before .before .before .before .before .before))
 
--- src/lib.rt:34:9
 add-i : tie.Need-add-i Inv-loop μ-loop
-add-i c = ?
+add-i c = omega (arith, room (c .before .before .before .before .before .before .before .before .before))
 
--- src/lib.rt:31:5
 loop-less : tie.Need-loop-less Inv-loop μ-loop
-loop-less c = ?
+loop-less c = omega arith
 
--- src/lib.rt:31:5
 loop-again : tie.Need-loop-again Inv-loop μ-loop
-loop-again c = ?
+loop-again c =
+    let a = c .before .before .before .before .before .before .before .before .before .before .before .before .before .before .before .before .args in
+    let l = c .before .before .before .before .before .before .before .before .before .before .loop in
+    let p = c .before .before .put-row in
+    (omega arith, p .kept .0 ∙ l .inv .1, rowed-more (a .bases .now) (a .starts .now) (a .w .now) (a .order .now) (l .i) (l .inv .2) (p .ensures))
 
--- src/lib.rt:26:1
 same-length : tie.Need-same-length Inv-loop μ-loop
-same-length c = ?
+same-length c = c .before .loop .inv .1
 
--- src/lib.rt:26:1
 returns : tie.Need-returns Inv-loop μ-loop
-returns c = ?
+returns c =
+    let a = c .before .before .before .before .before .before .before .args in
+    let l = c .before .loop in
+    subst (λ (k : ℕ). Rowed (a .bases .now) (a .starts .now) (a .w .now) (a .order .now) (l .rows) k) {x = l .i} {y = a .axes} (omega arith) (l .inv .2)
 
 pub put-rows-spec : {M : Type 1} → statement M
 put-rows-spec =
