@@ -1,3 +1,4 @@
+-- Laws of strips and of classes, for the crates above.
 pub mod StripLaws
 pub mod SizeLaws
 pub mod CombinationLaws
