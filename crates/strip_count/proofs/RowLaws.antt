@@ -10,7 +10,7 @@ use Rattle.numbers.specs.Listed.{Begins}
 use Rattle.numbers.proofs.Cases.{lt-or-ge}
 use Rattle.permutation.specs.Families.{imageOf}
 use Rattle.window.specs.Counting.{cutAt}
-use Rattle.strips.specs.Classes.{baseIn, startIn, lIn, uIn, qIn, imageFrom}
+use Rattle.strips.specs.Classes.{imageFrom}
 use Rattle.strip_count.specs.Rows.{RowPut, RowAt, Rowed, Filled}
 
 -- ---- a row
@@ -39,14 +39,17 @@ module _ (rows : List ℕ) (i b n u q : ℕ) (room : 5 * i + 4 < length rows) wh
   pub row-put : RowPut i b n u q rows (set (set (set (set (set rows (5 * i) b) (5 * i + 1) n) (5 * i + 2) 0) (5 * i + 3) u) (5 * i + 4) q)
   row-put =
       record {
-        before = λ j h. from-four j (omega arith) ∙ from-three j (omega arith) ∙ from-two j (omega arith) ∙ from-one j (omega arith) ∙ earlier rows (5 * i) j b h;
+        before = λ j h.
+            from-four j (omega arith) ∙ from-three j (omega arith) ∙ from-two j (omega arith) ∙ from-one j (omega arith) ∙ earlier rows (5 * i) j b h;
         base-is =
             from-four (5 * i) (omega arith) ∙ from-three (5 * i) (omega arith) ∙ from-two (5 * i) (omega arith) ∙ from-one (5 * i) (omega arith)
             ∙ getD-set-same rows (5 * i) b 0 (omega arith);
         start-is =
             from-four (5 * i + 1) (omega arith) ∙ from-three (5 * i + 1) (omega arith) ∙ from-two (5 * i + 1) (omega arith)
             ∙ getD-set-same one (5 * i + 1) n 0 (omega (arith, lengths));
-        lower-is = from-four (5 * i + 2) (omega arith) ∙ from-three (5 * i + 2) (omega arith) ∙ getD-set-same two (5 * i + 2) 0 0 (omega (arith, lengths));
+        lower-is =
+            from-four (5 * i + 2) (omega arith) ∙ from-three (5 * i + 2) (omega arith)
+            ∙ getD-set-same two (5 * i + 2) 0 0 (omega (arith, lengths));
         upper-is = from-four (5 * i + 3) (omega arith) ∙ getD-set-same three (5 * i + 3) u 0 (omega (arith, lengths));
         whole-is = getD-set-same four (5 * i + 4) q 0 (omega (arith, lengths));
       }
@@ -73,7 +76,9 @@ module _ (bases starts w order : List ℕ) where
   pub rowed-more : {rows new : List ℕ} (i : ℕ) → Rowed bases starts w order rows i
       → let a = getD order i 0 in RowPut i (getD bases a 0) (getD starts a 0) (cutAt w a .u) (cutAt w a .q) rows new
       → Rowed bases starts w order new (i + 1)
-  rowed-more {rows} {new} i old put = record { at = λ j h. ⊎-elim (λ k. kept j k) (λ k. subst (λ (y : ℕ). RowAt bases starts w new y (getD order y 0)) {x = i} {y = j} (omega arith) own) (lt-or-ge j i) }
+  rowed-more {rows} {new} i old put = record {
+    at = λ j h. ⊎-elim (kept j) (λ k. subst (λ (y : ℕ). RowAt bases starts w new y (getD order y 0)) {x = i} {y = j} (omega arith) own) (lt-or-ge j i);
+  }
     where
       own : RowAt bases starts w new i (getD order i 0)
       own = record { base = put .base-is; start = put .start-is; lower = put .lower-is; upper = put .upper-is; whole = put .whole-is }

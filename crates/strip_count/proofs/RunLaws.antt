@@ -1,14 +1,12 @@
 -- A run of a plan's axes, held in rows and a table of images in some order: its steps are one class, and as many of them are inside as of the run.
 -- Assumes nothing.
 use mathlib.Core.Path.{_≡_, refl, ap, _∙_}
-use mathlib.Core.Bool.{Bool}
 use mathlib.Core.List.{List}
 use Prim.Native.Nat.{ℕ, _+_, _*_, _^_, _<_, _≤_}
 use native.Mathlib.Omega.{arith}
 use lib.ListN.{length, getD}
-use Rattle.numbers.specs.Count.{count, each}
+use Rattle.numbers.specs.Count.{count}
 use Rattle.numbers.specs.Cut.{belowCut}
-use Rattle.numbers.specs.Digits.{numeratorTo}
 use Rattle.numbers.specs.Depth.{depth, denominator}
 use Rattle.numbers.proofs.CountLaws.{count-ext}
 use Rattle.numbers.proofs.EachLaws.{each-ext}
@@ -22,10 +20,10 @@ use Rattle.points.proofs.ArrayLaws.{numerator-by-base, denominator-by-base}
 use Rattle.window.specs.Counting.{cutAt}
 use Rattle.window.specs.Walking.{Room, axisInsideBy, insideFrom}
 use Rattle.strips.specs.Ends.{inEnds, endsIn, insideEnds, haltonEnds}
-use Rattle.strips.specs.Classes.{belowRest, withinRest, insideAlong, baseIn, startIn, lIn, uIn, qIn, imageFrom, tableAxes, Digits, EndsAt, Held, Steps}
+use Rattle.strips.specs.Classes.{belowRest, withinRest, insideAlong, baseIn, imageFrom, tableAxes, Digits, EndsAt, Held, Steps}
 use Rattle.strips.proofs.RestLaws.{within-below}
 use Rattle.strip_order.specs.Order.{Order, Bases}
-use Rattle.strip_count.specs.Rows.{runAxes, RowAt, Rowed, Filled, Reached}
+use Rattle.strip_count.specs.Rows.{runAxes, Rowed, Filled, Reached}
 
 -- ---- the rows and the table
 
@@ -40,9 +38,6 @@ module _ {bases starts w order rows : List ℕ} {s : ℕ} (row : Rowed bases sta
       }
 
   module _ (g : Bases s bases) where
-    base-in : (i : ℕ) → i < s → (2 ≤ baseIn rows i) × (baseIn rows i ≤ 256)
-    base-in i b = let a = o .low i b in (omega (arith, row .at i b .base, g .low (getD order i 0) a), omega (arith, row .at i b .base, g .high (getD order i 0) a))
-
     module _ {family : ℕ} {l : List ℕ} (f : Filled family bases order l s) where
       pub run-held : Room w s → 5 * s ≤ length rows → 256 * s ≤ length l → Held l rows s
       run-held room long space = record { long = long; ends = ends; digits = digits }

@@ -16,13 +16,15 @@ slice-aggregate-is-walked : tie.Need-slice-aggregate-is-walked
 slice-aggregate-is-walked c = search needs
 
 is-walked-requires : tie.Need-is-walked-requires
-is-walked-requires c κs = let s = c .before .before .before .before in (arrays-bases (s .pre .0), omega arith, s .pre .2, omega (arith, s .pre .0 .few))
+is-walked-requires c κs =
+    let s = c .before .before .before .before in
+    (arrays-bases (s .pre .0), omega arith, s .pre .2, omega (arith, s .pre .0 .few))
 
 count-inside-requires : tie.Need-count-inside-requires
-count-inside-requires c κs = search needs
+count-inside-requires c κs = let s = c .before .before .before .before .before .before .before in (s .pre .0, omega arith, s .pre .2)
 
 returns : tie.Need-returns
-returns c = search needs
+returns c = c .count-inside .ensures
 
 slice-aggregate-count-strips : tie.Need-slice-aggregate-count-strips
 slice-aggregate-count-strips c = search needs

@@ -39,18 +39,21 @@ slice-aggregate-count-class-2 c = search needs
 count-class-requires : tie.Need-count-class-requires
 count-class-requires c κs =
     let s = c .before .before .before .before .before .before .before .before .before .before .before .before .before .before .before .before .before in
-    let rowed = c .before .before .before .before .before .before .before .put-rows in
     let order = c .before .before .before .before .before .before .before .before .before .before .before .put-order .ensures in
+    let rowed = c .before .before .before .before .before .before .before .put-rows in
     let filled = c .before .before .before .put-images in (
-      run-held (rowed .ensures) order (s .pre .0) (filled .ensures) (s .pre .4) (omega (arith, s .pre .0 .few, rowed .kept .1 .1 .1 .1 .1 .0)) (omega (arith, s .pre .0 .few, filled .kept .1 .1 .1 .1 .0)),
+      run-held (rowed .ensures) order (s .pre .0) (filled .ensures) (s .pre .4)
+          (omega (arith, s .pre .0 .few, rowed .kept .1 .1 .1 .1 .1 .0)) (omega (arith, s .pre .0 .few, filled .kept .1 .1 .1 .1 .0)),
       run-steps (rowed .ensures) order (s .pre .2) (s .pre .3),
     )
 
 returns : tie.Need-returns
 returns c =
     let s = c .before .before .before .before .before .before .before .before .before .before .before .before .before .before .before .before .before .before in
-    let a = s .args in
-    c .count-class .ensures ∙ run-counted (c .before .before .before .before .before .before .before .before .put-rows .ensures) (c .before .before .before .before .before .before .before .before .before .before .before .before .put-order .ensures) (s .pre .0) (c .before .before .before .before .put-images .ensures) (a .stride) (a .k)
+    let order = c .before .before .before .before .before .before .before .before .before .before .before .before .put-order .ensures in
+    let rowed = c .before .before .before .before .before .before .before .before .put-rows .ensures in
+    let filled = c .before .before .before .before .put-images .ensures in
+    c .count-class .ensures ∙ run-counted rowed order (s .pre .0) filled (s .args .stride) (s .args .k)
 
 pub count-strips-spec : {M : Type 1} → statement M
 count-strips-spec =

@@ -1,6 +1,6 @@
 -- `strip_count::put_images` meets its contract: the images of the first i axes are there. Assumes nothing.
 use mathlib.Core.Path.{_≡_, refl, subst}
-use Prim.Native.Nat.{ℕ, _+_, _-_, _*_, _≤_, _<_}
+use Prim.Native.Nat.{ℕ, _-_, _≤_, _<_}
 use native.Mathlib.Omega.{arith}
 use borrow.Author.Needs.{needs}
 use lib.ListN.{length, getD}
@@ -57,7 +57,10 @@ part-images-end : tie.Need-part-images-end Inv-loop μ-loop
 part-images-end c = omega (arith, room (c .before .before))
 
 images-requires : tie.Need-images-requires Inv-loop μ-loop
-images-requires c κs = let s = c .before .before .before .before .before .before .before .before in let low = s .pre .2 .low (c .before .before .before .before .loop .i) (omega arith) in (s .pre .0 .low _ low, s .pre .0 .high _ low, search needs)
+images-requires c κs =
+    let s = c .before .before .before .before .before .before .before .before in
+    let low = s .pre .2 .low (c .before .before .before .before .loop .i) (omega arith) in
+    (s .pre .0 .low _ low, s .pre .0 .high _ low, search needs)
 
 add-i : tie.Need-add-i Inv-loop μ-loop
 add-i c = omega (arith, room (c .before .before .before .before .before .before))
@@ -72,8 +75,8 @@ loop-again c =
     let l = c .before .before .before .before .before .before .before .loop in (
       omega arith,
       search needs,
-      filled-more (a .family) (a .bases .now) (a .order .now) _ _ (l .inv .2) (omega (arith, s .pre .0 .few)) (search needs) (λ j h. s .pre .0 .high _ (s .pre .2 .low j (omega arith)))
-          (c .before .before .images .ensures),
+      filled-more (a .family) (a .bases .now) (a .order .now) _ _ (l .inv .2) (omega (arith, s .pre .0 .few)) (search needs)
+          (λ j h. s .pre .0 .high _ (s .pre .2 .low j (omega arith))) (c .before .before .images .ensures),
     )
 
 same-length : tie.Need-same-length Inv-loop μ-loop
