@@ -106,14 +106,6 @@ module _ (ax : ℕ → EndAxis) (s : ℕ) (low : 2 ≤ ax s .axis .base) (below 
             (same-digit j)
             (rw (← left j) (within-digit σ b low below first v u q (x + r * (i + b * j)) q-pos (reach j k)))
 
-  -- all of it: each of the b classes is counted by what is behind its digit
-  pub by-digit : (v u x r t m L : ℕ) → Reads x r L → count (inClass ax s v u x r t m) L
-      ≡ sum
-      (λ i. count (inClass ax s (behind q (σ ((x + r * i) % b)) (v * b / q) (v * b % q)) (behind q (σ ((x + r * i) % b)) (u * b / q) (u * b % q)) ((x + r * i) / b) r (t + m * i) (m * b)) (classSize b L i))
-      b
-  by-digit v u x r t m L reads =
-      sym (pool b (omega arith) (inClass ax s v u x r t m) L) ∙ sum-ext _ _ b (λ i h. class-behind v u x r t m L i reads h)
-
   -- everything is within 0 and the whole
   pub class-whole : (x r t m L : ℕ) → count (inClass ax s 0 q x r t m) L ≡ count (insideAlong ax s t m) L
   unfolding inClass passes insideAlong

@@ -6,7 +6,7 @@ use mathlib.Core.Bool.{Bool, true, cond, _&&_, and-true, and-false, and-comm}
 use Prim.Native.Nat.{ℕ, zero, suc, _+_, _-_, _*_, _/_, _%_, _^_, _<_}
 use native.Mathlib.Nat.{le-refl, mul-comm, mul-zero, mul-one, mod-one, mod-lt, mod-eq-of-lt, mod-add-div, pow-zero, pow-suc, eq-one-of-dvd-one}
 use native.Mathlib.Omega.{arith}
-use lib.Dec.{ltb, eqb}
+use lib.Dec.{ltb, leb, eqb}
 use lib.Arith.{digits-lt, digits-div, mod-mul}
 use borrow.Author.Tests.{eq-eqb, ne-eqb}
 use Rattle.numbers.specs.Gcd.{Coprime, Invertible}
@@ -21,7 +21,8 @@ use Rattle.discrepancy.specs.Bound.{CutAxis, indexAt, inside, Sound, SoundAxes}
 use Rattle.discrepancy.proofs.BoundLaws.{invertible, fewer}
 use Rattle.discrepancy.proofs.ThinLaws.{Thinned, thin}
 use Rattle.strips.specs.Strips.{Strip, everything, inStrip, narrowed, sumStrips, axisStrips, sumCombinations, joint, sumClasses, StripOf, inCombination, modulusOf, Class}
-use Rattle.strips.specs.Classes.{classSize}
+use Rattle.strips.specs.Classes.{classCount, classSize}
+use Rattle.strips.proofs.SizeLaws.{class-of}
 use Rattle.strips.proofs.StripLaws.{sum-one, eq-digits, narrowed-proper, combinations-add-up}
 
 -- ---- coprime powers
@@ -74,18 +75,11 @@ join {M} {ρ} low a c proper v w =
 -- ---- the size of a class
 
 -- how many of N steps a class has
-pub class-size : (M root N : ℕ) → root < M → count (λ t. eqb (t % M) root) N ≡ classSize M N root
-unfolding classSize
+class-size : (M root N : ℕ) → root < M → count (λ t. eqb (t % M) root) N ≡ classSize M N root
+unfolding classCount
 class-size M root N h =
     count-ext (λ t. eqb (t % M) root) (λ t. eqb (t % M) root && true) N (λ t l. sym (and-true (eqb (t % M) root)))
-    ∙ z .counts (λ t. true) ∙ count-all (z .size)
-    ∙ sym (ap (λ (x : ℕ). x / M) whole ∙ digits-div (z .size) {m = M} {r = N + (M - 1 - root) - z .size * M} (omega (arith, z .low)))
-  where
-    z : Thinned M root N
-    z = thin M root h N
-
-    whole : N + (M - 1 - root) ≡ z .size * M + (N + (M - 1 - root) - z .size * M)
-    whole = omega (arith, z .high)
+    ∙ class-of M N root h (λ t. true) ∙ count-all (classSize M N root)
 
 -- ---- a combination
 
@@ -111,6 +105,7 @@ module _ (ax : ℕ → CutAxis) (c : ℕ → Strip) where
       here : Invertible (c s .modulus) (d .modulus)
       here = rw (last .modulus-is, h .modulus-is) (invertible (ax s .base ^ last .digits) (a .base ^ h .digits) powers)
 
+  -- The steps in all strips of a combination are one residue class.
   pub one-class : {N : ℕ} (s : ℕ) → SoundAxes N ax s → ((i : ℕ) → i < s → StripOf (ax i) (c i)) → Class ax c s
   unfolding inCombination each productTo
   one-class zero z k = record { root = 0; below = le-refl 1; steps = λ t. rw (mod-one t) refl }
@@ -162,6 +157,11 @@ module _ {N : ℕ} {a : CutAxis} (z : Sound N a) where
       ap₂ _+_ (sum-ext _ _ (u * a .base / a .q) (λ d l. same (narrowed (a .image) (a .base) c d) (narrowed-of h d)))
       (strips-agree f g same k (u * a .base % a .q) (narrowed (a .image) (a .base) c (u * a .base / a .q)) (narrowed-of h (u * a .base / a .q)))
 
+  axis-agrees : (f g : Strip → ℕ) → ((c : Strip) → StripOf a c → f c ≡ g c) → axisStrips a f ≡ axisStrips a g
+  unfolding axisStrips
+  axis-agrees f g same =
+      ap₂ (cond (leb (a .q) (a .u))) (same everything (everything-of a)) (strips-agree f g same (a .depth) (a .u) everything (everything-of a))
+
 -- the residue of a joined class is the only step of it below its modulus
 joint-is : {M ρ : ℕ} {a : CutAxis} {c : Strip} (j : Joined M ρ a c) → joint a M ρ c ≡ j .root
 unfolding joint
@@ -176,11 +176,10 @@ module _ {N : ℕ} {ax : ℕ → CutAxis} where
   -- within a class whose modulus is coprime to all bases
   classes-count : (s : ℕ) → SoundAxes N ax s → (M ρ : ℕ) → ρ < M → ((i : ℕ) → i < s → Coprime M (ax i .base))
       → sumClasses ax N s M ρ ≡ sumCombinations ax N s (λ t. eqb (t % M) ρ)
-  unfolding sumClasses sumCombinations axisStrips
+  unfolding sumClasses sumCombinations
   classes-count zero z M ρ low apart = sym (class-size M ρ N low)
   classes-count (suc s) z M ρ low apart =
-      strips-agree (z .sound s (le-refl (suc s))) _ _ (λ c k. one c k (classes-count s (fewer s z) (M * c .modulus)))
-      (ax s .depth) (ax s .u) everything (everything-of (ax s))
+      axis-agrees (z .sound s (le-refl (suc s))) _ _ (λ c k. one c k (classes-count s (fewer s z) (M * c .modulus)))
     where
       one : (c : Strip) → StripOf (ax s) c
           → ((ρ′ : ℕ) → ρ′ < M * c .modulus → ((i : ℕ) → i < s → Coprime (M * c .modulus) (ax i .base))

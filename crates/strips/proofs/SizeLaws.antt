@@ -27,7 +27,7 @@ pub class-in : (b L i j : ℕ) → i < b → j < classSize b L i → i + b * j <
 unfolding classSize
 class-in b L i j h l = omega (arith, le-div-iff-mul-le {k = b} {x = j + 1} {y = L + (b - 1 - i)} (omega arith) .0 (omega arith))
 
--- so a class is no longer than the run, and shorter where there are two numbers
+-- so a class is no longer than the run
 pub class-le : (b L i : ℕ) → 0 < b → i < b → classSize b L i ≤ L
 unfolding classSize
 class-le b L i pos h = omega (arith, div-lt-iff-lt-mul {k = b} {x = L + (b - 1 - i)} {y = L + 1} pos .1 (omega (arith, times)))
@@ -58,7 +58,7 @@ class-by b L i h = sym (go (lt-or-ge i (L % b)))
 
 -- ---- the classes add up
 
-class-of : (b L i : ℕ) → i < b → (p : ℕ → Bool) → count (λ j. eqb (j % b) i && p j) L ≡ classCount p b L i
+pub class-of : (b L i : ℕ) → i < b → (p : ℕ → Bool) → count (λ j. eqb (j % b) i && p j) L ≡ classCount p b L i
 unfolding classCount
 class-of b L i h p = rw (size-is h t) (t .counts p)
   where

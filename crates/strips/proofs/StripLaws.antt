@@ -1,5 +1,5 @@
--- The class counts of digit strips add up: over the strips of one axis's cut, and over the combinations of strips of all axes, to the number of
--- points inside. Assumes nothing.
+-- The steps in digit strips add up: over the strips of one axis's cut, and over the combinations of strips of all axes, to the number of points
+-- inside. Assumes nothing.
 use mathlib.Core.Path.{_≡_, refl, sym, ap, ap₂, _∙_}
 use mathlib.Core.Logic.{_⊎_, inl, inr}
 use mathlib.Core.Bool.{Bool, true, false, cond, _&&_, and-true, and-false, and-assoc, and-comm}
@@ -8,7 +8,7 @@ use native.Mathlib.Nat.{le-refl, le-of-lt, le-of-suc-le-suc, eq-or-lt-of-le, add
 use native.Mathlib.Omega.{arith}
 use lib.Dec.{ltb, eqb}
 use lib.Arith.{digits-lt, digits-div, mod-mul}
-use borrow.Author.Tests.{eq-eqb, ne-eqb}
+use borrow.Author.Tests.{eq-eqb, ne-eqb, le-leb, lt-leb}
 use Rattle.numbers.specs.Digits.{sum}
 use Rattle.numbers.specs.Count.{bit, count, each}
 use Rattle.numbers.specs.Cut.{belowCut}
@@ -18,7 +18,7 @@ use Rattle.numbers.proofs.NumeratorLaws.{numerator-none}
 use Rattle.numbers.proofs.CountLaws.{count-ext, count-split, count-none}
 use Rattle.permutation.specs.Permutes.{Permutes}
 use Rattle.discrepancy.specs.Bound.{CutAxis, indexAt, inCut, inside, Sound}
-use Rattle.discrepancy.proofs.CutLaws.{decided-split, count-below-none, count-below-more, indexInCut, in-cut-digit}
+use Rattle.discrepancy.proofs.CutLaws.{decided-split, count-below-none, count-below-more, indexInCut, in-cut-digit, in-cut-whole}
 use Rattle.strips.specs.Strips.{Strip, everything, inStrip, digitFor, narrowed, sumStrips, axisStrips, sumCombinations, stripsWithin}
 
 -- ---- sums
@@ -67,7 +67,7 @@ eq-digits x y m r a hr ha = go (eq-or-ne x y)
         rw (ne-eqb x y f)
         (ne-eqb (x * m + r) (y * m + a) (λ g. f (sym (digits-div x hr) ∙ ap (λ (n : ℕ). n / m) g ∙ digits-div y ha)))
 
-pub in-everything : (n : ℕ) → inStrip everything n ≡ true
+in-everything : (n : ℕ) → inStrip everything n ≡ true
 unfolding inStrip
 in-everything n = rw (mod-one n) refl
 
@@ -216,11 +216,22 @@ strips-number σ b q (suc k) u c =
 axis-adds-up : {N : ℕ} {a : CutAxis} → Sound N a → (p : ℕ → Bool)
     → axisStrips a (λ c. count (λ t. inStrip c (indexAt a t) && p t) N) ≡ count (λ t. inCut a t && p t) N
 unfolding axisStrips inCut
-axis-adds-up {N} {a} z p =
-    strips-add-up (z .permutes) (omega (arith, z .base-big)) (a .q) (z .q-pos) (indexAt a) p N (a .depth) (a .u) (z .u-le)
+axis-adds-up {N} {a} z p = go (lt-or-ge (a .u) (a .q))
+  where
+    pos : 0 < a .base
+    pos = omega (arith, z .base-big)
+
+    go : (a .u < a .q) ⊎ (a .q ≤ a .u) → axisStrips a (λ c. count (λ t. inStrip c (indexAt a t) && p t) N) ≡ count (λ t. inCut a t && p t) N
+    go (inl l) = rw (lt-leb (a .q) (a .u) l) (strips-add-up (z .permutes) pos (a .q) (z .q-pos) (indexAt a) p N (a .depth) (a .u) (z .u-le))
+    go (inr l) = rw (le-leb (a .q) (a .u) l) (count-ext _ _ N (λ t h. ap (λ (y : Bool). y && p t) (in-everything (indexAt a t) ∙ sym (whole t))))
+      where
+        whole : (t : ℕ) → indexInCut (a .image) (a .base) (a .depth) (a .u) (a .q) (indexAt a t) ≡ true
+        whole t =
+            ap (λ (y : ℕ). indexInCut (a .image) (a .base) (a .depth) y (a .q) (indexAt a t)) {x = a .u} {y = a .q} (omega (arith, z .u-le))
+            ∙ in-cut-whole (a .image) (a .base) (z .permutes .below) pos (a .depth) (a .q) (indexAt a t) (z .q-pos)
 
 -- of the steps that pass a test
-pub combinations-count : (N : ℕ) (ax : ℕ → CutAxis) (s : ℕ) → ((i : ℕ) → i < s → Sound N (ax i)) → (p : ℕ → Bool)
+combinations-count : (N : ℕ) (ax : ℕ → CutAxis) (s : ℕ) → ((i : ℕ) → i < s → Sound N (ax i)) → (p : ℕ → Bool)
     → sumCombinations ax N s p ≡ count (λ t. inside ax s t && p t) N
 unfolding sumCombinations inside each
 combinations-count N ax zero z p = refl
@@ -237,7 +248,7 @@ combinations-count N ax (suc s) z p =
         → n ≡ count (λ t. inStrip c (indexAt (ax s) t) && (inside ax s t && p t)) N
     fewer c e = e ∙ count-ext _ _ N (λ t l. and-swap (inside ax s t) (inStrip c (indexAt (ax s) t)) (p t))
 
--- of all steps: the class counts add up to the number of points inside
+-- of all steps: those of the combinations add up to the number of points inside
 pub combinations-add-up : (N : ℕ) (ax : ℕ → CutAxis) (s : ℕ) → ((i : ℕ) → i < s → Sound N (ax i))
     → sumCombinations ax N s (λ t. true) ≡ count (inside ax s) N
 combinations-add-up N ax s z =

@@ -1,5 +1,4 @@
--- The axes held in arrays: a step is inside on one axis more, and a class on one axis more is the class with nothing of the axis's cut taken.
--- Assumes nothing.
+-- The axes held in arrays: a step is inside on one axis more, and within the rests of the ends. Assumes nothing.
 use mathlib.Core.Path.{_≡_, refl, ap, ap₂, _∙_}
 use mathlib.Core.Bool.{Bool, true, false, not, _&&_, and-comm}
 use mathlib.Core.List.{List}

@@ -3,7 +3,7 @@
 use mathlib.Core.Path.{_≡_}
 use mathlib.Core.Bool.{Bool, cond, _&&_}
 use Prim.Native.Nat.{ℕ, zero, suc, _+_, _*_, _/_, _%_, _^_, _<_}
-use lib.Dec.{ltb, eqb}
+use lib.Dec.{ltb, leb, eqb}
 use Rattle.numbers.specs.Digits.{sum, productTo}
 use Rattle.numbers.specs.Count.{bit, count, each}
 use Rattle.discrepancy.specs.Bound.{CutAxis, indexAt}
@@ -37,9 +37,9 @@ sumStrips σ b q zero u c f = cond (ltb 0 u) (f c) 0
 sumStrips σ b q (suc k) u c f =
     sum (λ d. f (narrowed σ b c d)) (u * b / q) + sumStrips σ b q k (u * b % q) (narrowed σ b c (u * b / q)) f
 
--- the same over all strips of an axis's cut
+-- the same over all strips of an axis's cut; an axis that is not cut is one strip
 unfoldable pub axisStrips : CutAxis → (Strip → ℕ) → ℕ
-axisStrips a f = sumStrips (a .image) (a .base) (a .q) (a .depth) (a .u) everything f
+axisStrips a f = cond (leb (a .q) (a .u)) (f everything) (sumStrips (a .image) (a .base) (a .q) (a .depth) (a .u) everything f)
 
 -- The sum, over the combinations of a strip of each of the first s axes, of the number of steps that pass the test and lie in all strips of the
 -- combination, of N steps.
@@ -49,7 +49,8 @@ sumCombinations ax N (suc s) p = axisStrips (ax s) (λ c. sumCombinations ax N s
 
 -- ---- the class counts
 
--- The steps that leave the residue r modulo m and lie in the strip c of the axis a are one class again, modulo m × c's modulus: its residue.
+-- The steps that leave the residue r modulo m and lie in the strip c of the axis a are one class again, modulo m × c's modulus, where the stride and
+-- the moduli are coprime: its residue is the one such step below that modulus.
 unfoldable pub joint : CutAxis → ℕ → ℕ → Strip → ℕ
 joint a m r c = sum (λ t. t * bit (eqb (t % m) r && inStrip c (indexAt a t))) (m * c .modulus)
 
@@ -60,7 +61,7 @@ sumClasses ax N (suc s) m r = axisStrips (ax s) (λ c. sumClasses ax N s (m * c 
 
 -- ---- the class of one combination
 
--- the strip c of the axis a: the first digits of its index are given
+-- c is a strip of the axis a: the lowest digits of its indexes are given
 pub record StripOf (a : CutAxis) (c : Strip) : Type 0 where
   pub digits : ℕ
   pub modulus-is : c .modulus ≡ a .base ^ digits
@@ -83,7 +84,7 @@ pub record Class (ax : ℕ → CutAxis) (c : ℕ → Strip) (s : ℕ) : Type 0 w
   pub below : root < productTo (modulusOf c) s
   pub steps : (t : ℕ) → inCombination ax c s t ≡ eqb (t % productTo (modulusOf c) s) root
 
--- ---- how many strips there are, and when a run is walked
+-- ---- how many strips there are
 
 -- the number of strips within k digits of the cut u / q, the one on the cut's own digits included
 unfoldable pub stripsWithin : ℕ → ℕ → ℕ → ℕ → ℕ

@@ -3,7 +3,7 @@
 use mathlib.Core.Path.{_≡_, refl, sym, ap, ap₂, _∙_}
 use mathlib.Core.Bool.{Bool, true}
 use mathlib.Core.List.{List, [], _∷_}
-use Prim.Native.Nat.{ℕ, _+_, _≤_}
+use Prim.Native.Nat.{ℕ, zero, suc, _+_, _≤_}
 use native.Mathlib.Nat.{add-assoc, zero-add}
 use native.Mathlib.Omega.{arith}
 use Rattle.numbers.specs.Count.{count}
@@ -20,9 +20,10 @@ use Rattle.state.proofs.StateLaws.{genuine-holds}
 use Rattle.state.proofs.HistoryLaws.{left-by}
 use Rattle.calls.specs.Calls.{openSpec}
 use Rattle.calls.proofs.CaseLaws.{open-done}
-use Rattle.window.specs.Counting.{Cut, axisInside, stepInside, insideCount, cutsOf, isWindow}
-use Rattle.window_count.specs.Call.{countSpec}
-use Rattle.window_count.specs.Parts.{stepsOf, insideParts}
+use Rattle.window.specs.Counting.{Cut, axisInside, stepInside, insideCount, boundOf, cutsOf, isWindow}
+use Rattle.window_count.specs.Call.{counted, countSpec}
+use Rattle.window_count.specs.declared.Counted.{Counted}
+use Rattle.window_count.specs.Parts.{stepsOf, partCounted, insideParts}
 use Rattle.window_count.proofs.CaseLaws.{count-accepted, count-done}
 use Rattle.window_count.proofs.Demand3.{count-left}
 
@@ -43,33 +44,46 @@ module _ (s : Sampler) (w : List ℕ) (answered : countSpec s w .code ≡ 0) whe
   cuts = cutsOf w (s .axes)
 
   -- what the count answers for any permitted run, opened on the state
-  opened-count : (r : Run) → inRange r ≡ true → countSpec (openSpec s r .state) w .inside ≡ insideCount (planIn s) cuts r
+  opened-count : (r : Run) → inRange r ≡ true
+      → (openSpec s r .code ≡ 0) × (countSpec (openSpec s r .state) w ≡ counted 0 (insideCount (planIn s) cuts r) (boundOf (planIn s) (r .count)))
   opened-count r fits =
-      rw (open-done s r (count-accepted s w answered .0) fits)
-      (ap (λ (a : _). a .inside) (count-left (left-by (planIn s) (g .valid) r 0 (record { in-range = fits; not-past = omega arith })) w takes)
-      ∙ ap (λ (k : ℕ). insideCount (planIn s) (cutsOf w k) r) (sym (genuine-holds g .axes-is)))
+      rw (open-done s r (count-accepted s w answered .0) fits) (
+        refl,
+        count-left (left-by (planIn s) (g .valid) r 0 (record { in-range = fits; not-past = omega arith })) w takes
+            ∙ ap (λ (k : ℕ). counted 0 (insideCount (planIn s) (cutsOf w k) r) (boundOf (planIn s) (r .count))) (sym (genuine-holds g .axes-is)),
+      )
     where
       takes : isWindow w (axisCount (planIn s)) ≡ true
       takes = ap (isWindow w) (sym (genuine-holds g .axes-is)) ∙ count-accepted s w answered .1
+
+  -- Each part of the run is opened and counted with code 0, and its S is that of its steps.
+  pub part-answered : (t n : ℕ) → t + n ≤ s .count
+      → (openSpec s (partOf (runIn s) t n) .code ≡ 0) × (partCounted s w (runIn s) t n .code ≡ 0)
+      × (partCounted s w (runIn s) t n .inside ≡ count (λ k. stepInside (planIn s) cuts (runIn s) (t + k)) n)
+  part-answered t n h =
+      let o = opened-count (partOf (runIn s) t n) (part-range (runIn s) t n (g .run .in-range) h) in
+      (o .0, ap (λ (a : Counted). a .code) (o .1), ap (λ (a : Counted). a .inside) (o .1) ∙ here)
+    where
+      here : insideCount (planIn s) cuts (partOf (runIn s) t n) ≡ count (λ k. stepInside (planIn s) cuts (runIn s) (t + k)) n
+      here =
+          unfold insideCount partOf in
+          count-ext (stepInside (planIn s) cuts (partOf (runIn s) t n)) (λ k. stepInside (planIn s) cuts (runIn s) (t + k)) n
+          (λ k l. part-step (planIn s) cuts (runIn s) t n k)
 
   -- the parts from step t on
   parts-count : (t : ℕ) (sizes : List ℕ) → t + stepsOf sizes ≤ s .count
       → insideParts s w (runIn s) t sizes ≡ count (λ k. stepInside (planIn s) cuts (runIn s) (t + k)) (stepsOf sizes)
   unfolding insideParts stepsOf count
   parts-count t [] h = refl
-  parts-count t (n ∷ sizes) h =
-      ap₂ _+_ here (parts-count (t + n) sizes (omega arith) ∙ ap (λ (f : ℕ → Bool). count f (stepsOf sizes)) (λ j k. later k j))
-      ∙ sym (count-parts (λ k. stepInside (planIn s) cuts (runIn s) (t + k)) n (stepsOf sizes))
+  parts-count t (zero ∷ sizes) h =
+      parts-count t sizes (omega arith) ∙ ap (count (λ k. stepInside (planIn s) cuts (runIn s) (t + k))) (sym (zero-add (stepsOf sizes)))
+  parts-count t (suc n ∷ sizes) h =
+      ap₂ _+_ (part-answered t (suc n) (omega arith) .2)
+      (parts-count (t + suc n) sizes (omega arith) ∙ ap (λ (f : ℕ → Bool). count f (stepsOf sizes)) (λ j k. later k j))
+      ∙ sym (count-parts (λ k. stepInside (planIn s) cuts (runIn s) (t + k)) (suc n) (stepsOf sizes))
     where
-      later : (k : ℕ) → stepInside (planIn s) cuts (runIn s) (t + n + k) ≡ stepInside (planIn s) cuts (runIn s) (t + (n + k))
-      later k = ap (stepInside (planIn s) cuts (runIn s)) (add-assoc t n k)
-
-      here : countSpec (openSpec s (partOf (runIn s) t n) .state) w .inside ≡ count (λ k. stepInside (planIn s) cuts (runIn s) (t + k)) n
-      here =
-          opened-count (partOf (runIn s) t n) (part-range (runIn s) t n (g .run .in-range) (omega arith))
-          ∙ unfold insideCount partOf in
-          count-ext (stepInside (planIn s) cuts (partOf (runIn s) t n)) (λ k. stepInside (planIn s) cuts (runIn s) (t + k)) n
-          (λ k l. part-step (planIn s) cuts (runIn s) t n k)
+      later : (k : ℕ) → stepInside (planIn s) cuts (runIn s) (t + suc n + k) ≡ stepInside (planIn s) cuts (runIn s) (t + (suc n + k))
+      later k = ap (stepInside (planIn s) cuts (runIn s)) (add-assoc t (suc n) k)
 
   -- consecutive parts of the whole run add up to its answer
   pub parts-add-up : (sizes : List ℕ) → stepsOf sizes ≡ s .count → insideParts s w (runIn s) 0 sizes ≡ countSpec s w .inside
