@@ -1,4 +1,4 @@
--- Each answer of the day set's count, from the tests that lead to it; and what the walk over its first points counts. Assumes nothing.
+-- Each answer of the day set's count, from the tests that lead to it; and what the arrays count over its first points. Assumes nothing.
 use mathlib.Core.Path.{_≡_, refl, sym, _∙_}
 use mathlib.Core.Bool.{true, false, not, cond}
 use mathlib.Core.Logic.{_↔_}
@@ -29,7 +29,7 @@ use Rattle.window.proofs.RangeLaws.{window-cuts}
 use Rattle.window.proofs.LeadingLaws.{cuts-rest}
 use Rattle.inside_count.specs.Flagging.{cutLimit}
 use Rattle.window_count.specs.Call.{counted}
-use Rattle.window_count.proofs.CaseLaws.{count-walked}
+use Rattle.window_count.proofs.CaseLaws.{count-in-arrays}
 use Rattle.day_count.specs.Count.{dayInsideCount, dayBoundOf, dayCountSpec}
 use Rattle.day_count.proofs.FirstLaws.{day-first}
 
@@ -61,13 +61,13 @@ module _ (d : DaySet) (w : List ℕ) where
       day-count-done = rw (g, h) refl
 
       -- of the points that the leading cut takes, by the other cuts
-      pub day-count-walked : {first : ℕ} {others : List ℕ} → first ≡ cutLimit (cutAt w 0 .u) (cutAt w 0 .q) (daySize d) → others ≡ drop 2 w
+      pub day-count-in-arrays : {first : ℕ} {others : List ℕ} → first ≡ cutLimit (cutAt w 0 .u) (cutAt w 0 .q) (daySize d) → others ≡ drop 2 w
           → count (insideFrom (d .run .family) (d .run .bases) (d .run .directions) others (d .run .axes) 0) first
           ≡ dayInsideCount (dayPlan d) (cutsOf w (dayWidth d)) (daySize d)
-      day-count-walked e f =
+      day-count-in-arrays e f =
           let c = window-cuts w (dayWidth d) h in
           let l = cutAt w 0 in
-          rw (e, f) (count-walked (d .run) (drop 2 w) (day-is d g .1) (dayRun (cutLimit (l .u) (l .q) (daySize d)))
+          rw (e, f) (count-in-arrays (d .run) (drop 2 w) (day-is d g .1) (dayRun (cutLimit (l .u) (l .q) (daySize d)))
           ∙ sym (day-first (dayPlan d) (cutsOf w (dayWidth d)) (daySize d) (c .q-pos 0 (omega arith)) (c .u-le 0 (omega arith))
           ∙ rw (cuts-rest w (d .run .axes), cuts-at w (dayWidth d) 0 (omega arith), uOf, qOf) refl))
 

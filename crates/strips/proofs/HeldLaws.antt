@@ -40,7 +40,7 @@ held-less h s less =
 
 -- ---- a step
 
-pub step-less : {rows : List ℕ} {n o : ℕ} → Step rows n o → (s : ℕ) → s ≤ n → Step rows s o
+step-less : {rows : List ℕ} {n o : ℕ} → Step rows n o → (s : ℕ) → s ≤ n → Step rows s o
 step-less h s less = record { index = λ i k. h .index i (omega arith) }
 
 -- ---- a class

@@ -87,7 +87,7 @@ behind-outside q d from left cut rest f g h = go (lt-eq-gt d cut) (lt-eq-gt d fr
 -- ---- an index
 
 -- nothing is below the rest 0
-pub rest-nothing : (σ : ℕ → ℕ) (b q n : ℕ) → belowRest σ b q 0 n ≡ false
+rest-nothing : (σ : ℕ → ℕ) (b q n : ℕ) → belowRest σ b q 0 n ≡ false
 unfolding belowRest
 rest-nothing σ b q n = fails t (λ w. absurd (omega (arith, below-cut-pos (numerator σ b n) (denominator b) 0 q (holds t w))))
   where
@@ -124,7 +124,7 @@ module _ (σ : ℕ → ℕ) (b : ℕ) (low : 2 ≤ b) (below : (d : ℕ) → d <
       positive (suc v) g = omega arith
 
   -- every index is below the whole
-  pub rest-whole : (q n : ℕ) → 0 < q → belowRest σ b q q n ≡ true
+  rest-whole : (q n : ℕ) → 0 < q → belowRest σ b q q n ≡ true
   unfolding belowRest numerator denominator
   rest-whole q n h = in-cut-whole σ b below pos (depth b) q n h
 

@@ -78,7 +78,7 @@ strips-none σ b q zero c f = refl
 strips-none σ b q (suc k) c f = rw (zero-mul b, zero-div q, zero-mod q, strips-none σ b q k (narrowed σ b c 0) f) refl
 
 module _ {σ : ℕ → ℕ} {b : ℕ} (π : Permutes b σ) where
-  pub digit-for : (d : ℕ) → d < b → digitFor σ b d ≡ π .inverse d
+  digit-for : (d : ℕ) → d < b → digitFor σ b d ≡ π .inverse d
   unfolding digitFor
   digit-for d h =
       sum-one (λ x. x * bit (eqb (σ x) d)) b (π .inverse d) (π .inverse-below d h) other
@@ -107,7 +107,7 @@ module _ {σ : ℕ → ℕ} {b : ℕ} (π : Permutes b σ) where
 
   module _ (c : Strip) (proper : c .residue < c .modulus) (d : ℕ) (h : d < b) where
     -- an index in the narrower strip is in the wider one, and its next digit has the image d
-    pub in-narrowed : (n : ℕ) → inStrip (narrowed σ b c d) n ≡ eqb (σ (n / c .modulus % b)) d && inStrip c n
+    in-narrowed : (n : ℕ) → inStrip (narrowed σ b c d) n ≡ eqb (σ (n / c .modulus % b)) d && inStrip c n
     unfolding narrowed inStrip
     in-narrowed n =
         rw (

@@ -34,7 +34,7 @@ module _ (l rows : List ℕ) where
       → insideEnds ax i o ≡ withinRest (imageFrom l (256 * (i - 1))) (baseIn rows (i - 1)) (qIn rows (i - 1)) (lIn rows (i - 1)) (uIn rows (i - 1)) (startIn rows (i - 1) + o) && insideEnds ax (i - 1) o
   table-more i o h = ap (λ (j : ℕ). insideEnds ax j o) {x = i} {y = i - 1 + 1} (omega arith) ∙ table-last (i - 1) o
 
-  pub table-passes : (s v u x o : ℕ) → passes ax s v u x o ≡ withinRest (imageFrom l (256 * s)) (baseIn rows s) (qIn rows s) v u x && insideEnds ax s o
+  table-passes : (s v u x o : ℕ) → passes ax s v u x o ≡ withinRest (imageFrom l (256 * s)) (baseIn rows s) (qIn rows s) v u x && insideEnds ax s o
   unfolding passes tableAxes haltonEnds haltonAxes
   table-passes s v u x o = refl
 

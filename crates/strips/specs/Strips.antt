@@ -67,13 +67,9 @@ pub record StripOf (a : CutAxis) (c : Strip) : Type 0 where
   pub modulus-is : c .modulus ≡ a .base ^ digits
   pub proper : c .residue < c .modulus
 
--- axis i reads an index in its strip at step t
-abbrev pub axisInStrip : (ℕ → CutAxis) → (ℕ → Strip) → ℕ → ℕ → Bool
-axisInStrip ax c t i = inStrip (c i) (indexAt (ax i) t)
-
 -- the step t lies in all strips of a combination c of s axes
 unfoldable pub inCombination : (ℕ → CutAxis) → (ℕ → Strip) → ℕ → ℕ → Bool
-inCombination ax c s t = each (axisInStrip ax c t) s
+inCombination ax c s t = each (λ i. inStrip (c i) (indexAt (ax i) t)) s
 
 abbrev pub modulusOf : (ℕ → Strip) → ℕ → ℕ
 modulusOf c i = c i .modulus

@@ -1,4 +1,4 @@
--- Each answer of the count, from the tests that lead to it; and what the walk over a genuine state's arrays counts. Assumes nothing.
+-- Each answer of the counts, from the tests that lead to it; and what a genuine state's arrays count. Assumes nothing.
 use mathlib.Core.Path.{_≡_, refl, sym, ap, _∙_}
 use mathlib.Core.Bool.{true, false, not}
 use mathlib.Core.Logic.{_↔_}
@@ -54,9 +54,9 @@ module _ (s : Sampler) (w : List ℕ) where
     is = genuine-is s g
 
     -- over any run of the state's plan
-    pub count-walked : (r : Run) → count (insideFrom (s .family) (s .bases) (s .directions) w (s .axes) (r .start)) (r .count)
+    pub count-in-arrays : (r : Run) → count (insideFrom (s .family) (s .bases) (s .directions) w (s .axes) (r .start)) (r .count)
         ≡ insideCount (planIn s) (cutsOf w (s .axes)) r
-    count-walked r =
+    count-in-arrays r =
         let h = genuine-holds is in
         count-held (planIn s) (h .family-is) (h .axes-is) (h .bases-is) (is .valid) (h .directions-is) w r
         ∙ ap (λ (k : ℕ). insideCount (planIn s) (cutsOf w k) r) (sym (h .axes-is))

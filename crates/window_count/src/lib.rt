@@ -1,9 +1,9 @@
-// The window count of a sampler's run: the call.
+// The window count of a sampler's run: the two calls, one definition.
 use plan::refusal;
 use state::Sampler;
 ghost use mathlib.Core.Path.{_≡_};
 ghost use Prim.Native.Nat.{_+_, _^_, _≤_};
-ghost use Rattle.numbers.specs.Count as walk;
+ghost use Rattle.numbers.specs.Count as counting;
 ghost use Rattle.points.specs.Arrays.{Arrays};
 ghost use Rattle.window.specs.Walking.{insideFrom, Room};
 ghost use Rattle.window_count.specs.Call.{counted, countSpec};
@@ -38,7 +38,7 @@ fn inside_by<'a>(
     w: &[u64],
 ) -> u64
     requires { ⌜ Arrays family axes (now bases) (now directions) × (n + k ≤ 2 ^ 32) × Room (now w) axes ⌝ }
-    ensures { λ r. ⌜ r ≡ walk.count (insideFrom family (now (bases .entry)) (now (directions .entry)) (now (w .entry)) axes n) k ⌝ }
+    ensures { λ r. ⌜ r ≡ counting.count (insideFrom family (now (bases .entry)) (now (directions .entry)) (now (w .entry)) axes n) k ⌝ }
 {
     if by_strips {
         return strip_count::count_inside(family, axes, bases, directions, n, k, w);
@@ -93,8 +93,8 @@ pub fn count(s: Sampler, w: &[u64]) -> Counted
     counted_by(s, w, false)
 }
 
-// The same count by digit strips, for long runs of the Halton families the faster by far; where the strips' combinations outnumber the points, and
-// for Sobol, it walks.
+// The same count by digit strips where the rule `isWalked` of `strip_order` leaves it to them, which is far faster over long runs of the Halton
+// families, and else walked.
 pub fn count_by_strips(s: Sampler, w: &[u64]) -> Counted
     ensures { λ r. ⌜ r ≡ countSpec s (now (w .entry)) ⌝ }
 {

@@ -1,4 +1,4 @@
--- One case law a return; the walk over the first points counts those of the whole set that are inside. Assumes nothing.
+-- One case law a return; the first points inside are those of the whole set. Assumes nothing.
 use mathlib.Core.Path.{_≡_, sym, ap, ap₂, _∙_}
 use mathlib.Core.Bool.{true, false}
 use mathlib.Core.List.{List}
@@ -18,7 +18,7 @@ use Rattle.window.proofs.RangeLaws.{window-parts, window-room, range-at}
 use Rattle.window.proofs.LeadingLaws.{window-rest}
 use Rattle.window_count.specs.Call.{counted}
 use Rattle.day_count.proofs.FirstLaws.{limit-within}
-use Rattle.day_count.proofs.CaseLaws.{day-count-foreign, day-count-off, day-count-done, day-count-walked, day-bound-fits, day-bound-is}
+use Rattle.day_count.proofs.CaseLaws.{day-count-foreign, day-count-off, day-count-done, day-count-in-arrays, day-bound-fits, day-bound-is}
 use Rattle.day_count.proofs.day_count.Statement.{statement}
 use Rattle.day_count.proofs.day_count.Tie as tie
 
@@ -102,7 +102,7 @@ shared-slice-read-cut-limit-2 c = omega (arith, long (c .before .before))
 cut-limit-requires : tie.Need-cut-limit-requires
 cut-limit-requires c κs = omega (arith, leading (c .before .before), small (c .before .before))
 
--- the first points are walked
+-- the first points are counted
 abbrev taken : tie.After-cut-limit → tie.Else3
 taken c = c .before .before .before
 
@@ -129,29 +129,29 @@ count-inside-requires c κs =
     let a = given (taken m) .args in
     (known-arrays _ (whole (taken m)), omega (arith, first-small m), rw (rest (a .w .now)) (window-room _ _ (window-rest _ _ (fits (taken m)))))
 
-abbrev walked : tie.After-count-inside → tie.After-cut-limit
-walked c = c .before .before .before .before .before .before .before
+abbrev first-points : tie.After-count-inside → tie.After-cut-limit
+first-points c = c .before .before .before .before .before .before .before
 
 bound-requires : tie.Need-bound-requires
 bound-requires c κs =
-    let m = walked (c .before .before .before .before .before) in
+    let m = first-points (c .before .before .before .before .before) in
     (known-arrays _ (whole (taken m)), small (taken m))
 
 abbrev bounded : tie.After-bound → tie.After-count-inside
 bounded c = c .before .before .before .before .before .before
 
 day-bound-requires : tie.Need-day-bound-requires
-day-bound-requires c κs = day-bound-fits _ (known (taken (walked (bounded c)) .before .before)) (c .bound .ensures)
+day-bound-requires c κs = day-bound-fits _ (known (taken (first-points (bounded c)) .before .before)) (c .bound .ensures)
 
 returns-4 : tie.Need-returns-4
 returns-4 c =
     let i = bounded (c .before) in
-    let m = walked i in
+    let m = first-points i in
     let a = given (taken m) .args in
     let k = known (taken m .before .before) in
     let f = fits (taken m) in
     ap₂ (λ (inside bound : ℕ). counted 0 inside bound)
-    (i .count-inside .ensures ∙ day-count-walked (a .d) (a .w .now) k f (m .cut-limit .ensures) (rest (a .w .now)))
+    (i .count-inside .ensures ∙ day-count-in-arrays (a .d) (a .w .now) k f (m .cut-limit .ensures) (rest (a .w .now)))
     (c .day-bound .ensures ∙ day-bound-is (a .d) k (c .before .bound .ensures))
     ∙ sym (day-count-done (a .d) (a .w .now) k f)
 

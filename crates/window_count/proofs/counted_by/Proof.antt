@@ -1,4 +1,4 @@
--- One case law a return; the walk over the state's arrays counts its plan's points. Assumes nothing.
+-- One case law a return; the state's arrays count its plan's points. Assumes nothing.
 use mathlib.Core.Path.{_≡_, sym, _∙_}
 use mathlib.Core.Bool.{true, false}
 use Prim.Native.Nat.{ℕ}
@@ -10,7 +10,7 @@ use Rattle.calls.proofs.PointLaws.{axes-few, known-arrays, known-run}
 use Rattle.window.specs.Counting.{isWindow}
 use Rattle.window.proofs.RangeLaws.{window-room}
 use Rattle.window_count.specs.Call.{counted}
-use Rattle.window_count.proofs.CaseLaws.{count-foreign, count-off, count-done, count-walked, bound-known}
+use Rattle.window_count.proofs.CaseLaws.{count-foreign, count-off, count-done, count-in-arrays, bound-known}
 use Rattle.window_count.proofs.counted_by.Statement.{statement}
 use Rattle.window_count.proofs.counted_by.Tie as tie
 
@@ -71,7 +71,7 @@ returns-3 c =
     let p = c .before .before .before .before .before .before in
     let k = known (taken p .before .before) in
     let a = start (taken p .before .before .before) .args in
-    answer (p .inside-by .ensures ∙ count-walked (a .t1) (a .w .now) k (runIn (a .t1))) (c .bound .ensures ∙ bound-known (a .t1) (a .w .now) k (a .t1 .count))
+    answer (p .inside-by .ensures ∙ count-in-arrays (a .t1) (a .w .now) k (runIn (a .t1))) (c .bound .ensures ∙ bound-known (a .t1) (a .w .now) k (a .t1 .count))
     ∙ sym (count-done _ _ k (fits (taken p)))
 
 pub counted-by-spec : {M : Type 1} → statement M
