@@ -1,5 +1,4 @@
-// How many points of a plan's run are inside a window: by digit strips on the axes of the Halton families, and walked for Sobol, for short runs,
-// and where the combinations of strips outnumber the points.
+// How many points of a plan's run are inside a window: by digit strips or walked, as the rule `isWalked` of `strip_order` says.
 ghost use mathlib.Core.Path.{_≡_};
 ghost use Prim.Native.Nat.{_+_, _*_, _^_, _≤_};
 ghost use lib.ListN.{length};
@@ -7,7 +6,7 @@ ghost use Rattle.numbers.specs.Count.{count};
 ghost use Rattle.discrepancy.specs.Bound.{inside};
 ghost use Rattle.points.specs.Arrays.{Arrays};
 ghost use Rattle.window.specs.Walking.{insideFrom, Room};
-ghost use Rattle.strip_order.specs.Order.{Order, Few, Bases};
+ghost use Rattle.strip_order.specs.Order.{Order, Bases};
 ghost use Rattle.strip_count.specs.Rows.{runAxes, RowPut, Rowed, Filled, Reached};
 
 // Writes row `i`: a base, a start, and the ends 0 and u / q.
@@ -49,7 +48,7 @@ fn put_images(family: u64, axes: usize, bases: &[u64], order: &[u64], l: &mut [u
     }
 }
 
-// How many of the `k` steps of stride `stride` are inside, each axis from its own start on, by digit strips.
+// How many of the `k` steps of stride `stride` are inside, each axis from its own start on, by digit strips; the axes in the given order.
 fn count_strips(
     family: u64,
     axes: usize,
@@ -58,17 +57,15 @@ fn count_strips(
     stride: u64,
     k: u64,
     w: &[u64],
-    strips: &[u64],
+    order: &[u64],
 ) -> u64
-    requires { ⌜ Bases axes (now bases) × (axes ≤ length (now starts)) × Reached (now starts) axes stride k × (k ≤ 2 ^ 32) × Room (now w) axes × Few (now strips) axes ⌝ }
+    requires { ⌜ Bases axes (now bases) × (axes ≤ length (now starts)) × Reached (now starts) axes stride k × (k ≤ 2 ^ 32) × Room (now w) axes × (axes ≤ length (now order)) × Order axes (now order) ⌝ }
     ensures { λ r. ⌜ r ≡ count (inside (runAxes family (now (bases .entry)) (now (starts .entry)) stride (now (w .entry))) axes) k ⌝ }
 {
-    let mut order = [0u64; 6];
-    strip_order::put_order(axes, strips, &mut order);
     let mut rows = [0u64; 30];
-    put_rows(axes, bases, starts, w, &order, &mut rows);
+    put_rows(axes, bases, starts, w, order, &mut rows);
     let mut l = [0u8; 1536];
-    put_images(family, axes, bases, &order, &mut l);
+    put_images(family, axes, bases, order, &mut l);
     class_count::count_class(&l, &rows, axes, 0, stride, k)
 }
 
@@ -85,10 +82,10 @@ pub fn count_inside<'a>(
     requires { ⌜ Arrays family axes (now bases) (now directions) × (n + k ≤ 2 ^ 32) × Room (now w) axes ⌝ }
     ensures { λ r. ⌜ r ≡ count (insideFrom family (now (bases .entry)) (now (directions .entry)) (now (w .entry)) axes n) k ⌝ }
 {
-    let mut strips = [0u64; 6];
-    if strip_order::is_walked(family, axes, bases, k as u64, w, &mut strips) {
+    let mut order = [0u64; 6];
+    if strip_order::is_walked(family, axes, bases, k as u64, w, &mut order) {
         return inside_count::count_inside(family, axes, bases, directions, n, k, w);
     }
     let starts = [n; 6];
-    count_strips(family, axes, bases, &starts, 1, k as u64, w, &strips)
+    count_strips(family, axes, bases, &starts, 1, k as u64, w, &order)
 }

@@ -1,2 +1,3 @@
 pub mod StripLaws
 pub mod OrderLaws
+pub mod WorkLaws

@@ -36,8 +36,16 @@ count-strips-requires : tie.Need-count-strips-requires
 count-strips-requires c κs =
     let s = c .before .before .before .before .before .before .before .before .before in
     let a = s .args in
-    let e = c .before .before .before .before .is-walked .ensures .1 (c .before .before .if1 .left) in
-    (arrays-bases (s .pre .0) (e .0), omega (arith, s .pre .0 .few), one-reached _ (a .axes) (a .n) (one s) (s .pre .1), omega arith, s .pre .2, e .1)
+    let walked = c .before .before .before .before .is-walked in
+    let e = walked .ensures .1 (c .before .before .if1 .left) in (
+      arrays-bases (s .pre .0) (e .0),
+      omega (arith, s .pre .0 .few),
+      one-reached _ (a .axes) (a .n) (one s) (s .pre .1),
+      omega arith,
+      s .pre .2,
+      omega (arith, s .pre .0 .few, walked .kept .1 .1 .1 .1 .1 .0),
+      e .1,
+    )
 
 returns-2 : tie.Need-returns-2
 returns-2 c =
