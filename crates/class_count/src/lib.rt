@@ -136,7 +136,7 @@ fn rest_behind(q: u64, d: u64, c: u64, rest: u64) -> u64
 
 // The first digit whose strip lies wholly above the lower end, which has the digit `from` and the rest `left`.
 fn first_whole(from: u64, left: u64) -> u64
-    requires { ⌜ from ≤ 256 ⌝ }
+    requires { ⌜ from ≤ 2 ^ 32 ⌝ }
     ensures { λ r. ⌜ r ≡ from + bit (ltb 0 left) ⌝ }
 {
     if 0 < left { from + 1 } else { from }
@@ -175,7 +175,60 @@ fn is_uncut(v: u64, u: u64, q: u64) -> bool
     false
 }
 
-// How many of the class's `k` steps are inside, where axis `s` reads x + r × i against the rests v / q and u / q of its ends.
+// How many of the class's `k` steps are inside, where axis `s` reads x + r × i against the rests v / q and u / q of its ends: a class for each digit
+// that a step has.
+fn split_class(
+    l: &[u8],
+    rows: &[u64],
+    s: usize,
+    v: u64,
+    u: u64,
+    x: u64,
+    r: u64,
+    t: u64,
+    m: u64,
+    k: u64,
+) -> u64
+    requires { ⌜ Held (now l) (now rows) (s + 1) × (v ≤ 2 ^ 24) × (u ≤ 2 ^ 24) × Reads x r k × Steps (now rows) s t m k × (1 < k) ⌝ }
+    ensures { λ n. ⌜ n ≡ count (inClass (tableAxes (now (l .entry)) (now (rows .entry))) s v u x r t m) k ⌝ }
+{
+    let b = rows[5 * s];
+    let q = rows[5 * s + 4];
+    let from = v * b / q;
+    let left = v * b % q;
+    let cut = u * b / q;
+    let rest = u * b % q;
+    let first = first_whole(from, left);
+    let low = k / b;
+    let more = k % b;
+    let turn = r % b;
+    let end = class_number(b, k);
+    let mut e = x % b;
+    let mut n = 0;
+    let mut i = 0;
+    while i < end {
+        let d = l[256 * s + (e as usize)] as u64;
+        let size = class_size(low, more, i);
+        let o = t + m * i;
+        if is_cut(from, left, cut, d) {
+            let lo = rest_behind(q, d, from, left);
+            let hi = rest_behind(q, d, cut, rest);
+            let y = (x + r * i) / b;
+            n = n + cut_class(l, rows, s, lo, hi, y, r, o, m * b, size);
+        } else if is_whole(first, cut, d) {
+            if s == 0 {
+                n = n + size;
+            } else {
+                n = n + next_axis(l, rows, s - 1, o, m * b, size);
+            }
+        }
+        e = next_digit(e, turn, b);
+        i += 1;
+    }
+    n
+}
+
+// The same for any number of steps and any rests.
 fn cut_class(
     l: &[u8],
     rows: &[u64],
@@ -194,49 +247,13 @@ fn cut_class(
     if u <= v {
         return 0;
     }
+    if k == 0 {
+        return 0;
+    }
     if k == 1 {
         return one_step(l, rows, s, v, u, x, t);
     }
-    let b = rows[5 * s];
-    let q = rows[5 * s + 4];
-    let from = v * b / q;
-    let left = v * b % q;
-    let cut = u * b / q;
-    let rest = u * b % q;
-    let first = first_whole(from, left);
-    let low = k / b;
-    let more = k % b;
-    let turn = r % b;
-    let end = class_number(b, k);
-    let mut e = x % b;
-    let mut n = 0;
-    let mut i = 0;
-    while i < end {
-        let d = l[256 * s + (e as usize)] as u64;
-        let size = class_size(low, more, i);
-        if is_cut(from, left, cut, d) {
-            let lo = rest_behind(q, d, from, left);
-            let hi = rest_behind(q, d, cut, rest);
-            n = n
-                + cut_class(
-                    l,
-                    rows,
-                    s,
-                    lo,
-                    hi,
-                    (x + r * i) / b,
-                    r,
-                    t + m * i,
-                    m * b,
-                    size,
-                );
-        } else if is_whole(first, cut, d) {
-            n = n + count_class(l, rows, s, t + m * i, m * b, size);
-        }
-        e = next_digit(e, turn, b);
-        i += 1;
-    }
-    n
+    split_class(l, rows, s, v, u, x, r, t, m, k)
 }
 
 // How many of the steps t + m × i, i below `k`, are inside on axis `s` and those before it. A whole axis is passed over.

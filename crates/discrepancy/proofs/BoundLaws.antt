@@ -15,7 +15,7 @@ use Rattle.numbers.proofs.DepthLaws.{depth-covers}
 use Rattle.discrepancy.specs.Bound.{CutAxis, inCut, inside, factor, bound, baseOf, uOf, qOf, Near, Sound, SoundAxes, haltonAxes, HaltonRun}
 use Rattle.discrepancy.proofs.FairLaws.{Fair, fair-none, fair-near, fair-axis}
 
-invertible : (m b : ℕ) → Coprime m b → Invertible m b
+pub invertible : (m b : ℕ) → Coprime m b → Invertible m b
 invertible m b c = gcd-one-iff-invertible m b .0 (gcd-one-iff-coprime m b .1 c)
 
 -- an axis's depth covers the number of steps
@@ -32,6 +32,10 @@ steps-le (suc n) a z = omega (arith, z .reach n (le-refl (suc n)), mul-le-mul-ri
     moves : 0 < a .stride
     moves = ⊎-elim (λ h. h) still (lt-or-ge 0 (a .stride))
 
+-- without the last axis
+pub fewer : {N : ℕ} {ax : ℕ → CutAxis} (s : ℕ) → SoundAxes N ax (suc s) → SoundAxes N ax s
+fewer s z = record { sound = λ i l. z .sound i (omega arith); coprime = λ i j l m. z .coprime i j l (omega arith) }
+
 -- M is coprime to each of the s bases
 abbrev pub Apart : (ℕ → CutAxis) → ℕ → ℕ → Type 0
 Apart ax s M = (i : ℕ) → i < s → Invertible M (ax i .base)
@@ -41,7 +45,7 @@ pub axes-fair : (N : ℕ) (ax : ℕ → CutAxis) (s : ℕ) → SoundAxes N ax s
 unfolding inCut inside each productTo factor
 axes-fair N ax zero z = fair-none N (Apart ax 0)
 axes-fair N ax (suc s) z =
-    fair-axis (last .permutes) (omega (arith, last .base-big)) (axes-fair N ax s fewer) closed
+    fair-axis (last .permutes) (omega (arith, last .base-big)) (axes-fair N ax s (fewer s z)) closed
     (a .q) (last .q-pos) (Apart ax (suc s)) (λ M m. (λ i l. m i (omega arith), m s (le-refl (suc s))))
     (a .start) (a .stride) (a .depth) (digitCount (a .base) N) (a .u) (last .u-le) (invertible (a .stride) (a .base) (last .stride-coprime))
     (le-of-lt (digit-count-reaches (a .base) N (last .base-big))) (steps-le N a last)
@@ -51,9 +55,6 @@ axes-fair N ax (suc s) z =
 
     last : Sound N a
     last = z .sound s (le-refl (suc s))
-
-    fewer : SoundAxes N ax s
-    fewer = record { sound = λ i l. z .sound i (omega arith); coprime = λ i j l m. z .coprime i j l (omega arith) }
 
     closed : (M : ℕ) → Apart ax s M → Apart ax s (M * a .base)
     closed M m i l = invertible-mul (m i l) (invertible (a .base) (ax i .base) (z .coprime s i l (le-refl (suc s))))

@@ -3,6 +3,7 @@ use mathlib.Core.Path.{_≡_, refl, sym, _∙_}
 use mathlib.Core.Bool.{true, false}
 use mathlib.Core.Logic.{⊎-elim}
 use Prim.Native.Nat.{ℕ, _+_, _-_, _^_, _<_, _≤_}
+use native.Mathlib.Nat.{add-assoc}
 use native.Mathlib.Omega.{arith}
 use lib.Dec.{leb}
 use lib.ListN.{length}
@@ -11,7 +12,7 @@ use Rattle.numbers.proofs.Cases.{lt-or-ge}
 use Rattle.numbers.proofs.ListedLaws.{listed-length}
 use Rattle.plan.specs.Plan.{Plan}
 use Rattle.points.specs.Point.{axisCount, numeratorOf, pointOf}
-use Rattle.points.specs.Run.{Run, indexAt, inRange, runNumerator, runPoint}
+use Rattle.points.specs.Run.{Run, indexAt, inRange, partOf, runNumerator, runPoint}
 
 -- ---- the range
 
@@ -34,6 +35,19 @@ range-left r h =
     ⊎-elim (λ l. lt-leb (r .count) (2 ^ 32 - r .start) l ∙ sym (lt-leb (r .start + r .count) (2 ^ 32) (omega arith)))
     (λ l. le-leb (r .count) (2 ^ 32 - r .start) l ∙ sym (le-leb (r .start + r .count) (2 ^ 32) (omega arith)))
     (lt-or-ge (2 ^ 32 - r .start) (r .count))
+
+-- ---- a part
+
+module _ (r : Run) (t n : ℕ) where
+  -- of a permitted run it is permitted
+  pub part-range : inRange r ≡ true → t + n ≤ r .count → inRange (partOf r t n) ≡ true
+  unfolding partOf
+  part-range fits h = is-range (partOf r t n) (omega (arith, range-is r fits))
+
+  -- each axis reads on from the run's step t
+  pub part-index : (i k : ℕ) → indexAt (partOf r t n) i k ≡ indexAt r i (t + k)
+  unfolding partOf indexAt
+  part-index i k = add-assoc (r .start) t k
 
 -- ---- the points
 

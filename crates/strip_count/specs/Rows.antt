@@ -2,7 +2,7 @@
 use mathlib.Core.Path.{_≡_}
 use mathlib.Core.List.{List}
 use Prim.Native.Nat.{ℕ, _+_, _*_, _^_, _<_}
-use lib.ListN.{length, getD}
+use lib.ListN.{getD}
 use Rattle.permutation.specs.Families.{imageOf}
 use Rattle.discrepancy.specs.Bound.{CutAxis, haltonAxes}
 use Rattle.window.specs.Counting.{cutAt}
@@ -15,7 +15,6 @@ runAxes family bases starts r w =
 
 -- Row i was written: a base, a start, and the ends 0 and u / q. The rows before it stay.
 pub record RowPut (i base start u q : ℕ) (old new : List ℕ) : Type 0 where
-  pub long : length new ≡ length old
   pub before : (j : ℕ) → j < 5 * i → getD new j 0 ≡ getD old j 0
   pub base-is : baseIn new i ≡ base
   pub start-is : startIn new i ≡ start
@@ -39,6 +38,7 @@ pub record Rowed (bases starts w order rows : List ℕ) (s : ℕ) : Type 0 where
 pub record Filled (family : ℕ) (bases order l : List ℕ) (s : ℕ) : Type 0 where
   pub at : (i d : ℕ) → i < s → d < getD bases (getD order i 0) 0 → imageFrom l (256 * i) d ≡ imageOf family (getD bases (getD order i 0) 0) d
 
--- what a run of k steps asks of its starts
+-- what a run of k steps asks of its stride and its starts
 pub record Reached (starts : List ℕ) (s r k : ℕ) : Type 0 where
+  pub low : (t : ℕ) → t < k → r * t < 2 ^ 32
   pub index : (i t : ℕ) → i < s → t < k → getD starts i 0 + r * t < 2 ^ 32

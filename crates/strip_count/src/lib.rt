@@ -25,7 +25,7 @@ fn put_row(rows: &mut [u64], i: usize, base: u64, start: u64, u: u64, q: u64)
 // Writes a row for each axis, in the given order.
 fn put_rows(axes: usize, bases: &[u64], starts: &[u64], w: &[u64], order: &[u64], rows: &mut [u64])
     requires { ⌜ Bases axes (now bases) × (axes ≤ length (now starts)) × Room (now w) axes × (axes ≤ length (now order)) × Order axes (now order) × (length (now rows) ≡ 30) ⌝ }
-    ensures { λ r. ⌜ Rowed (now (bases .entry)) (now (starts .entry)) (now (w .entry)) (now (order .entry)) (now (rows .exit)) axes × (length (now (rows .exit)) ≡ 30) ⌝ }
+    ensures { λ r. ⌜ Rowed (now (bases .entry)) (now (starts .entry)) (now (w .entry)) (now (order .entry)) (now (rows .exit)) axes ⌝ }
 {
     let mut i = 0;
     while i < axes {
@@ -38,7 +38,7 @@ fn put_rows(axes: usize, bases: &[u64], starts: &[u64], w: &[u64], order: &[u64]
 // Fills `l` with the images of the digits of each axis, 256 entries an axis, in the given order.
 fn put_images(family: u64, axes: usize, bases: &[u64], order: &[u64], l: &mut [u8])
     requires { ⌜ Bases axes (now bases) × (axes ≤ length (now order)) × Order axes (now order) × (length (now l) ≡ 1536) ⌝ }
-    ensures { λ r. ⌜ Filled family (now (bases .entry)) (now (order .entry)) (now (l .exit)) axes × (length (now (l .exit)) ≡ 1536) ⌝ }
+    ensures { λ r. ⌜ Filled family (now (bases .entry)) (now (order .entry)) (now (l .exit)) axes ⌝ }
 {
     let mut i = 0;
     while i < axes {

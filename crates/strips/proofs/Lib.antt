@@ -1,4 +1,7 @@
+-- Laws of strips and of classes, for the crates above.
+pub mod StripLaws
 pub mod SizeLaws
+pub mod CombinationLaws
 pub mod RestLaws
 pub mod ClassLaws
 pub mod TableLaws

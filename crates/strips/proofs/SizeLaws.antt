@@ -3,7 +3,7 @@ use mathlib.Core.Path.{_≡_, refl, sym, ap, ap₂, _∙_}
 use mathlib.Core.Logic.{_⊎_, inl, inr}
 use mathlib.Core.Bool.{Bool, _&&_}
 use Prim.Native.Nat.{ℕ, zero, suc, _+_, _-_, _*_, _%_, _/_, _≤_, _<_}
-use native.Mathlib.Nat.{le-refl, le-of-lt, mod-lt, mod-eq-of-lt, div-add-mod', div-eq-of-lt-le, le-div-iff-mul-le, div-lt-iff-lt-mul, mul-le-mul-left}
+use native.Mathlib.Nat.{zero-add, le-refl, le-of-lt, mod-lt, mod-eq-of-lt, div-add-mod', div-eq-of-lt-le, le-div-iff-mul-le, div-lt-iff-lt-mul, mul-le-mul-left}
 use native.Mathlib.Omega.{arith}
 use lib.Dec.{ltb, eqb}
 use borrow.Author.Tests.{lt-ltb, le-ltb}
@@ -99,3 +99,7 @@ pool-more b p L c = sum-one-more (classCount p b L) c
 pub count-empty : (p : ℕ → Bool) {k : ℕ} → k ≡ 0 → 0 ≡ count p k
 unfolding count
 count-empty p e = rw e refl
+
+pub count-one : (p : ℕ → Bool) → count p 1 ≡ bit (p 0)
+unfolding count
+count-one p = zero-add (bit (p 0))

@@ -10,14 +10,17 @@ use lib.Dec.{ltb}
 use Rattle.numbers.specs.Count.{bit, count}
 use Rattle.numbers.specs.Digits.{sum}
 use Rattle.discrepancy.specs.Bound.{haltonAxes}
-use Rattle.strips.specs.Ends.{haltonEnds}
-use Rattle.strips.specs.Classes.{classSize, classCount, behind, insideAlong, inClass, baseIn, startIn, lIn, uIn, qIn, imageFrom, tableAxes, Held, Reads, Split}
-use Rattle.strips.proofs.SizeLaws.{pool, pool-short, pool-le, pool-none, pool-more}
+use Rattle.strips.specs.Ends.{insideEnds, haltonEnds}
+use Rattle.strips.specs.Classes.{classSize, classCount, behind, passes, insideAlong, inClass, baseIn, startIn, lIn, uIn, qIn, imageFrom, tableAxes, Held, Reads, Split}
+use Rattle.strips.proofs.SizeLaws.{count-one, pool, pool-short, pool-le, pool-none, pool-more}
 use Rattle.strips.proofs.RestLaws.{behind-below, behind-above, behind-outside}
 use Rattle.strips.proofs.ClassLaws.{along-none, along-axis, class-behind, class-nothing, class-whole}
 use Rattle.strips.proofs.HeldLaws.{held-digits, held-ends, held-image}
 
 -- ---- a class that is not split
+
+pub first : (t m : ℕ) → t + m * 0 ≡ t
+first t m = omega arith
 
 -- the lower end is not below the upper one
 pub split-nothing : (l rows : List ℕ) (s v u x r t m k : ℕ) → u ≤ v → 0 ≡ count (inClass (tableAxes l rows) s v u x r t m) k
@@ -30,6 +33,11 @@ unfolding tableAxes haltonEnds haltonAxes
 split-whole l rows s x r t m k h e f =
     let d = held-digits h s (omega arith) in
     rw (e, f) (sym (class-whole (tableAxes l rows) s (d .low) (d .below) (d .first) (held-ends h s (omega arith) .q-pos) x r t m k))
+
+-- of one step
+pub split-one : (l rows : List ℕ) (s v u x r t m : ℕ) {k : ℕ} → k ≡ 1 → bit (passes (tableAxes l rows) s v u x t) ≡ count (inClass (tableAxes l rows) s v u x r t m) k
+unfolding inClass
+split-one l rows s v u x r t m e = rw (e, count-one (inClass (tableAxes l rows) s v u x r t m), first x r, first t m)
 
 -- ---- the way through
 
@@ -132,10 +140,20 @@ module _ (l rows : List ℕ) where
   unfolding tableAxes
   axes-none t m k = sym (along-none _ _ _ _ _ _ t m k)
 
-  -- axis i - 1 is the last of i
-  pub axes-more : (i t m k : ℕ) → 0 < i
-      → count (insideAlong (tableAxes l rows) i t m) k
-      ≡ count (inClass (tableAxes l rows) (i - 1) (lIn rows (i - 1)) (uIn rows (i - 1)) (startIn rows (i - 1) + t) m t m) k
+  -- of s axes, where s is 0, and where it is one more than another number
+  pub axes-last : (t m k : ℕ) {s : ℕ} → s ≡ 0 → k ≡ count (insideAlong (tableAxes l rows) s t m) k
+  axes-last t m k e = axes-none t m k ∙ ap (λ (j : ℕ). count (insideAlong (tableAxes l rows) j t m) k) (sym e)
+
+  pub axes-same : (t m k : ℕ) {s : ℕ} → 0 < s → count (insideAlong (tableAxes l rows) (s - 1 + 1) t m) k ≡ count (insideAlong (tableAxes l rows) s t m) k
+  axes-same t m k {s} h = ap (λ (j : ℕ). count (insideAlong (tableAxes l rows) j t m) k) {x = s - 1 + 1} {y = s} (omega arith)
+
+  -- a class of one step
+  pub axes-one : (s t m : ℕ) {k : ℕ} → k ≡ 1 → bit (insideEnds (tableAxes l rows) s t) ≡ count (insideAlong (tableAxes l rows) s t m) k
+  unfolding insideAlong
+  axes-one s t m e = rw (e, count-one (insideAlong (tableAxes l rows) s t m), first t m)
+
+  -- axis s is the last of s + 1
+  pub axes-more : (s t m k : ℕ) → count (insideAlong (tableAxes l rows) (s + 1) t m) k
+      ≡ count (inClass (tableAxes l rows) s (lIn rows s) (uIn rows s) (startIn rows s + t) m t m) k
   unfolding tableAxes
-  axes-more i t m k h =
-      ap (λ (j : ℕ). count (insideAlong (tableAxes l rows) j t m) k) {x = i} {y = i - 1 + 1} (omega arith) ∙ along-axis _ _ _ _ _ _ (i - 1) t m k
+  axes-more s t m k = along-axis _ _ _ _ _ _ s t m k

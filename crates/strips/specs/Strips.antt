@@ -1,11 +1,13 @@
 -- Digit strips (02-change-requests.md, K2): what lies below a cut is a row of strips, each of them one residue class of the indexes, and a
 -- combination has a strip for each axis. Definitions only.
-use mathlib.Core.Bool.{Bool, true, cond, _&&_}
-use Prim.Native.Nat.{ℕ, zero, suc, _+_, _*_, _/_, _%_}
+use mathlib.Core.Path.{_≡_}
+use mathlib.Core.Bool.{Bool, cond, _&&_}
+use Prim.Native.Nat.{ℕ, zero, suc, _+_, _*_, _/_, _%_, _^_, _<_}
 use lib.Dec.{ltb, eqb}
-use Rattle.numbers.specs.Digits.{sum}
-use Rattle.numbers.specs.Count.{bit, count}
+use Rattle.numbers.specs.Digits.{sum, productTo}
+use Rattle.numbers.specs.Count.{bit, count, each}
 use Rattle.discrepancy.specs.Bound.{CutAxis, indexAt}
+use Rattle.strips.specs.Classes.{classSize}
 
 -- A strip: the fractions with the same leading digits. Their indexes are those that leave the residue modulo b^j, j being the number of digits.
 pub record Strip : Type 0 where
@@ -44,6 +46,42 @@ axisStrips a f = sumStrips (a .image) (a .base) (a .q) (a .depth) (a .u) everyth
 unfoldable pub sumCombinations : (ℕ → CutAxis) → ℕ → ℕ → (ℕ → Bool) → ℕ
 sumCombinations ax N zero p = count p N
 sumCombinations ax N (suc s) p = axisStrips (ax s) (λ c. sumCombinations ax N s (λ t. inStrip c (indexAt (ax s) t) && p t))
+
+-- ---- the class counts
+
+-- The steps that leave the residue r modulo m and lie in the strip c of the axis a are one class again, modulo m × c's modulus: its residue.
+unfoldable pub joint : CutAxis → ℕ → ℕ → Strip → ℕ
+joint a m r c = sum (λ t. t * bit (eqb (t % m) r && inStrip c (indexAt a t))) (m * c .modulus)
+
+-- The sum, over the same combinations within the class of r modulo m, of the sizes of their classes, of N steps.
+unfoldable pub sumClasses : (ℕ → CutAxis) → ℕ → ℕ → ℕ → ℕ → ℕ
+sumClasses ax N zero m r = classSize m N r
+sumClasses ax N (suc s) m r = axisStrips (ax s) (λ c. sumClasses ax N s (m * c .modulus) (joint (ax s) m r c))
+
+-- ---- the class of one combination
+
+-- the strip c of the axis a: the first digits of its index are given
+pub record StripOf (a : CutAxis) (c : Strip) : Type 0 where
+  pub digits : ℕ
+  pub modulus-is : c .modulus ≡ a .base ^ digits
+  pub proper : c .residue < c .modulus
+
+-- axis i reads an index in its strip at step t
+abbrev pub axisInStrip : (ℕ → CutAxis) → (ℕ → Strip) → ℕ → ℕ → Bool
+axisInStrip ax c t i = inStrip (c i) (indexAt (ax i) t)
+
+-- the step t lies in all strips of a combination c of s axes
+unfoldable pub inCombination : (ℕ → CutAxis) → (ℕ → Strip) → ℕ → ℕ → Bool
+inCombination ax c s t = each (axisInStrip ax c t) s
+
+abbrev pub modulusOf : (ℕ → Strip) → ℕ → ℕ
+modulusOf c i = c i .modulus
+
+-- The steps of a combination are one residue class, modulo the product of the strips' moduli.
+pub record Class (ax : ℕ → CutAxis) (c : ℕ → Strip) (s : ℕ) : Type 0 where
+  pub root : ℕ
+  pub below : root < productTo (modulusOf c) s
+  pub steps : (t : ℕ) → inCombination ax c s t ≡ eqb (t % productTo (modulusOf c) s) root
 
 -- ---- how many strips there are, and when a run is walked
 

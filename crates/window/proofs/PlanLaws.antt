@@ -15,14 +15,15 @@ use Rattle.numbers.specs.Listed.{padded}
 use Rattle.numbers.proofs.CountLaws.{count-ext}
 use Rattle.numbers.proofs.EachLaws.{each-ext}
 use Rattle.numbers.proofs.ListedLaws.{padded-at}
-use Rattle.discrepancy.specs.Bound.{bound}
+use Rattle.permutation.specs.Families.{imageOf}
+use Rattle.discrepancy.specs.Bound.{bound, haltonAxes}
 use Rattle.discrepancy.proofs.FitLaws.{bound-fits}
 use Rattle.plan.specs.Plan.{Plan, halton, sobol, Valid}
 use Rattle.points.specs.Point.{axisCount}
 use Rattle.points.specs.Run.{Run, indexAt, runNumerator}
 use Rattle.points.specs.Arrays.{familyOf, basesArray, directionsArray}
 use Rattle.points.proofs.ArrayLaws.{numerator-at-plan, denominator-at-plan}
-use Rattle.window.specs.Counting.{noCut, axisInside, stepInside, insideCount, baseAt, boundOf, cutAt, cutsOf}
+use Rattle.window.specs.Counting.{Cut, noCut, uOf, qOf, axisInside, stepInside, insideCount, baseAt, cutAxes, boundOf, cutAt, cutsOf}
 use Rattle.window.specs.Walking.{axisInsideBy, insideFrom, boundBy}
 
 -- ---- the cuts of a list of numbers
@@ -57,6 +58,14 @@ module _ (p : Plan) (v : Valid p) (w : List ℕ) (r : Run) where
   count-plan =
       count-ext (insideFrom (familyOf p) (basesArray p) (directionsArray p) w (axisCount p) (r .start)) (stepInside p (cutsOf w (axisCount p)) r) (r .count)
       (λ t l. each-ext (axisInsideBy (familyOf p) (basesArray p) (directionsArray p) w (r .start + t)) (axisInside p (cutsOf w (axisCount p)) r t) (axisCount p) (axis-plan t))
+
+-- ---- the axes
+
+-- zeros behind the bases change no axis
+pub axes-padded : (family : ℕ) (bases : List ℕ) (w : List Cut) (r : Run) → cutAxes family (padded 6 bases) w r ≡ cutAxes family bases w r
+unfolding cutAxes
+axes-padded family bases w r =
+    ap (λ (b : ℕ → ℕ). haltonAxes (λ i. imageOf family (b i)) b (λ i. r .start) 1 (uOf w) (qOf w)) (λ j i. padded-at 6 bases i j)
 
 -- ---- the bound
 

@@ -8,7 +8,8 @@ use lib.ListN.{length, getD}
 use Rattle.numbers.specs.Count.{count, each}
 use Rattle.numbers.specs.Cut.{belowCut}
 use Rattle.numbers.specs.Digits.{productTo}
-use Rattle.discrepancy.specs.Bound.{bound}
+use Rattle.permutation.specs.Families.{imageOf}
+use Rattle.discrepancy.specs.Bound.{CutAxis, bound, haltonAxes}
 use Rattle.plan.specs.Plan.{Plan, halton, sobol}
 use Rattle.points.specs.Point.{axisCount, denominatorOf}
 use Rattle.points.specs.Run.{Run, runNumerator}
@@ -52,10 +53,14 @@ stepInside p w r t = each (axisInside p w r t) (axisCount p)
 unfoldable pub insideCount : Plan → List Cut → Run → ℕ
 insideCount p w r = count (stepInside p w r) (r .count)
 
--- ---- the bound
+-- ---- a Halton-family plan's axes, and the bound
 
 abbrev pub baseAt : List ℕ → ℕ → ℕ
 baseAt bases i = getD bases i 0
+
+-- the axes of a Halton-family plan's run, with their cuts: each reads the index start + t at step t
+unfoldable pub cutAxes : ℕ → List ℕ → List Cut → Run → ℕ → CutAxis
+cutAxes family bases w r = haltonAxes (λ i. imageOf family (baseAt bases i)) (baseAt bases) (λ i. r .start) 1 (uOf w) (qOf w)
 
 -- the bound that a count of N points reports: for Sobol 0, which claims none
 unfoldable pub boundOf : Plan → ℕ → ℕ

@@ -1,3 +1,5 @@
 -- Laws of the window count.
 pub mod CaseLaws
 pub mod Demand3
+pub mod PartLaws
+pub mod StripLaws

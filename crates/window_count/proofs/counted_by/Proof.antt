@@ -11,8 +11,8 @@ use Rattle.window.specs.Counting.{isWindow}
 use Rattle.window.proofs.RangeLaws.{window-room}
 use Rattle.window_count.specs.Call.{counted}
 use Rattle.window_count.proofs.CaseLaws.{count-foreign, count-off, count-done, count-walked, bound-known}
-use Rattle.window_count.proofs.count.Statement.{statement}
-use Rattle.window_count.proofs.count.Tie as tie
+use Rattle.window_count.proofs.counted_by.Statement.{statement}
+use Rattle.window_count.proofs.counted_by.Tie as tie
 
 is-genuine-requires : tie.Need-is-genuine-requires
 is-genuine-requires c κs = search needs
@@ -49,11 +49,11 @@ returns-2 : tie.Need-returns-2
 returns-2 c = c .refused2 .ensures ∙ sym (count-off _ _ (known (c .before .before .before)) (off (c .before)))
 
 -- where the points are counted, the window is taken
-abbrev taken : tie.After-count-inside → tie.Else2
+abbrev taken : tie.After-inside-by → tie.Else2
 taken c = c .before .before .before .before .before .before
 
-count-inside-requires : tie.Need-count-inside-requires
-count-inside-requires c κs =
+inside-by-requires : tie.Need-inside-by-requires
+inside-by-requires c κs =
     let w = c .before .before .before .before .before in
     let k = known (w .before .before) in
     (known-arrays _ k, omega (arith, known-run _ k), window-room _ _ (fits w))
@@ -71,11 +71,11 @@ returns-3 c =
     let p = c .before .before .before .before .before .before in
     let k = known (taken p .before .before) in
     let a = start (taken p .before .before .before) .args in
-    answer (p .count-inside .ensures ∙ count-walked (a .t1) (a .w .now) k (runIn (a .t1))) (c .bound .ensures ∙ bound-known (a .t1) (a .w .now) k (a .t1 .count))
+    answer (p .inside-by .ensures ∙ count-walked (a .t1) (a .w .now) k (runIn (a .t1))) (c .bound .ensures ∙ bound-known (a .t1) (a .w .now) k (a .t1 .count))
     ∙ sym (count-done _ _ k (fits (taken p)))
 
-pub count-spec : {M : Type 1} → statement M
-count-spec =
+pub counted-by-spec : {M : Type 1} → statement M
+counted-by-spec =
     tie.close
     (tie.spec
     is-genuine-requires
@@ -84,6 +84,6 @@ count-spec =
     is-window-requires
     refused-requires-2
     returns-2
-    count-inside-requires
+    inside-by-requires
     bound-requires
     returns-3)
