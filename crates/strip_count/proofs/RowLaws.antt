@@ -77,7 +77,8 @@ module _ (bases starts w order : List ℕ) where
       → let a = getD order i 0 in RowPut i (getD bases a 0) (getD starts a 0) (cutAt w a .u) (cutAt w a .q) rows new
       → Rowed bases starts w order new (i + 1)
   rowed-more {rows} {new} i old put = record {
-    at = λ j h. ⊎-elim (kept j) (λ k. subst (λ (y : ℕ). RowAt bases starts w new y (getD order y 0)) {x = i} {y = j} (omega arith) own) (lt-or-ge j i);
+    at = λ j h.
+        ⊎-elim (kept j) (λ k. subst (λ (y : ℕ). RowAt bases starts w new y (getD order y 0)) {x = i} {y = j} (omega arith) own) (lt-or-ge j i);
   }
     where
       own : RowAt bases starts w new i (getD order i 0)

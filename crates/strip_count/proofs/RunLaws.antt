@@ -81,13 +81,15 @@ module _ {bases starts w order rows : List ℕ} {s : ℕ} (row : Rowed bases sta
           rw (y .base, y .start, y .lower, y .upper, y .whole, index)
           (within-below (imageFrom l (256 * i)) base (c .q) (c .u) n
           ∙ ap (λ (z : ℕ). belowCut z (base ^ depth base) (c .u) (c .q))
-          (numerator-ext (imageFrom l (256 * i)) (imageOf family base) base (depth base) n (omega (arith, g .low x (o .low i b))) (λ d k. f .at i d b k)))
+          (numerator-ext (imageFrom l (256 * i)) (imageOf family base) base (depth base) n (omega (arith, g .low x (o .low i b)))
+          (λ d k. f .at i d b k)))
 
       pub run-counted : (r k : ℕ) → count (insideAlong (tableAxes l rows) s 0 r) k ≡ count (inside (runAxes family bases starts r w) s) k
       unfolding insideAlong insideEnds inside
       run-counted r k =
           count-ext (insideAlong (tableAxes l rows) s 0 r) (inside (runAxes family bases starts r w) s) k
-          (λ t h. each-ext (endsIn (tableAxes l rows) (0 + r * t)) (λ i. axisIn (runAxes family bases starts r w) t (getD order i 0)) s (row-inside r t)
+          (λ t h.
+          each-ext (endsIn (tableAxes l rows) (0 + r * t)) (λ i. axisIn (runAxes family bases starts r w) t (getD order i 0)) s (row-inside r t)
           ∙ o .same (axisIn (runAxes family bases starts r w) t))
 
 -- ---- one start for every axis, and stride 1

@@ -19,7 +19,7 @@ use Rattle.numbers.proofs.CountLaws.{count-ext, count-split, count-none}
 use Rattle.permutation.specs.Permutes.{Permutes}
 use Rattle.discrepancy.specs.Bound.{CutAxis, indexAt, inCut, inside, Sound}
 use Rattle.discrepancy.proofs.CutLaws.{decided-split, count-below-none, count-below-more, indexInCut, in-cut-digit}
-use Rattle.strips.specs.Strips.{Strip, everything, inStrip, digitFor, narrowed, sumStrips, axisStrips, sumCombinations}
+use Rattle.strips.specs.Strips.{Strip, everything, inStrip, digitFor, narrowed, sumStrips, axisStrips, sumCombinations, stripsWithin}
 
 -- ---- sums
 
@@ -27,6 +27,11 @@ sum-none : (f : ℕ → ℕ) (k : ℕ) → ((j : ℕ) → j < k → f j ≡ 0) �
 unfolding sum
 sum-none f zero h = refl
 sum-none f (suc k) h = rw (sum-none f k (λ j l. h j (omega arith)), h k (le-refl (suc k))) refl
+
+ones : (k : ℕ) → sum (λ j. 1) k ≡ k
+unfolding sum
+ones zero = refl
+ones (suc k) = rw (ones k) (omega arith)
 
 -- one term alone is not 0
 pub sum-one : (f : ℕ → ℕ) (k i : ℕ) → i < k → ((j : ℕ) → j < k → (j ≡ i → ⊥) → f j ≡ 0) → sum f k ≡ f i
@@ -193,6 +198,17 @@ module _ {σ : ℕ → ℕ} {b : ℕ} (π : Permutes b σ) where
         strips-within k u everything hu (le-refl 1)
         ∙ count-ext _ (λ t. indexInCut σ b k u q (x t) && p t) N
         (λ t l. rw (in-everything (x t), div-one (x t)) (and-comm (p t) (indexInCut σ b k u q (x t))))
+
+-- the number of strips within k digits is the sum of 1 over them
+pub strips-number : (σ : ℕ → ℕ) (b q k u : ℕ) (c : Strip) → sumStrips σ b q k u c (λ d. 1) ≡ stripsWithin b q k u
+unfolding sumStrips stripsWithin
+strips-number σ b q zero u c = one (ltb 0 u)
+  where
+    one : (t : Bool) → cond t 1 0 ≡ bit t
+    one true = refl
+    one false = refl
+strips-number σ b q (suc k) u c =
+    ap₂ _+_ (ones (u * b / q)) (strips-number σ b q k (u * b % q) (narrowed σ b c (u * b / q)))
 
 -- ---- all axes
 

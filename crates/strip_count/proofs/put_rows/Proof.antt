@@ -97,7 +97,8 @@ returns : tie.Need-returns Inv-loop μ-loop
 returns c =
     let a = c .before .before .before .before .before .before .before .args in
     let l = c .before .loop in
-    subst (λ (k : ℕ). Rowed (a .bases .now) (a .starts .now) (a .w .now) (a .order .now) (l .rows) k) {x = l .i} {y = a .axes} (omega arith) (l .inv .2)
+    subst (λ (k : ℕ). Rowed (a .bases .now) (a .starts .now) (a .w .now) (a .order .now) (l .rows) k) {x = l .i} {y = a .axes} (omega arith)
+    (l .inv .2)
 
 pub put-rows-spec : {M : Type 1} → statement M
 put-rows-spec =
