@@ -3,7 +3,7 @@
 // axis, and in rows of five numbers: the base, the start, and l, u and q of the ends l / q and u / q. The last axis is taken up first.
 ghost use mathlib.Core.Path.{_≡_};
 ghost use mathlib.Core.Bool.{true, false};
-ghost use Prim.Native.Nat.{_+_, _*_, _%_, _^_, _<_, _≤_};
+ghost use Prim.Native.Nat.{_+_, _*_, _/_, _%_, _^_, _<_, _≤_};
 ghost use lib.Dec.{ltb};
 ghost use Rattle.numbers.specs.Count.{bit, count};
 ghost use Rattle.strips.specs.Ends.{insideEnds};
@@ -47,10 +47,7 @@ fn within_rest(l: &[u8], rows: &[u64], s: usize, v: u64, u: u64, x: u64) -> bool
     if v == 0 {
         return true;
     }
-    if below_rest(l, rows, s, v, x) {
-        return false;
-    }
-    true
+    !below_rest(l, rows, s, v, x)
 }
 
 // Whether the step `o` is inside on the first `s` axes.
@@ -134,6 +131,28 @@ fn rest_behind(q: u64, d: u64, c: u64, rest: u64) -> u64
     rest
 }
 
+// The digit of the lower end v / q in base `b`. Most windows have the end 0, which needs no division.
+fn lower_digit(v: u64, b: u64, q: u64) -> u64
+    requires { ⌜ (v * b ≤ 2 ^ 32) × (1 ≤ q) ⌝ }
+    ensures { λ r. ⌜ r ≡ v * b / q ⌝ }
+{
+    if v == 0 {
+        return 0;
+    }
+    v * b / q
+}
+
+// What is left of it behind that digit.
+fn lower_rest(v: u64, b: u64, q: u64) -> u64
+    requires { ⌜ (v * b ≤ 2 ^ 32) × (1 ≤ q) ⌝ }
+    ensures { λ r. ⌜ r ≡ v * b % q ⌝ }
+{
+    if v == 0 {
+        return 0;
+    }
+    v * b % q
+}
+
 // The first digit whose strip lies wholly above the lower end, which has the digit `from` and the rest `left`.
 fn first_whole(from: u64, left: u64) -> u64
     requires { ⌜ from ≤ 2 ^ 32 ⌝ }
@@ -176,7 +195,7 @@ fn is_uncut(v: u64, u: u64, q: u64) -> bool
 }
 
 // How many of the class's `k` steps are inside, where axis `s` reads x + r × i against the rests v / q and u / q of its ends: a class for each digit
-// that a step has.
+// that a step has. The digit moves on by `turn`.
 fn split_class(
     l: &[u8],
     rows: &[u64],
@@ -185,23 +204,23 @@ fn split_class(
     u: u64,
     x: u64,
     r: u64,
+    turn: u64,
     t: u64,
     m: u64,
     k: u64,
 ) -> u64
-    requires { ⌜ Held (now l) (now rows) (s + 1) × (v ≤ 2 ^ 24) × (u ≤ 2 ^ 24) × Reads x r k × Steps (now rows) s t m k × (1 < k) ⌝ }
+    requires { ⌜ Held (now l) (now rows) (s + 1) × (v ≤ 2 ^ 24) × (u ≤ 2 ^ 24) × Reads x r k × (turn ≡ r % baseIn (now rows) s) × Steps (now rows) s t m k × (1 < k) ⌝ }
     ensures { λ n. ⌜ n ≡ count (inClass (tableAxes (now (l .entry)) (now (rows .entry))) s v u x r t m) k ⌝ }
 {
     let b = rows[5 * s];
     let q = rows[5 * s + 4];
-    let from = v * b / q;
-    let left = v * b % q;
+    let from = lower_digit(v, b, q);
+    let left = lower_rest(v, b, q);
     let cut = u * b / q;
     let rest = u * b % q;
     let first = first_whole(from, left);
     let low = k / b;
     let more = k % b;
-    let turn = r % b;
     let end = class_number(b, k);
     let mut e = x % b;
     let mut n = 0;
@@ -210,17 +229,17 @@ fn split_class(
         let d = l[256 * s + (e as usize)] as u64;
         let size = class_size(low, more, i);
         let o = t + m * i;
-        if is_whole(first, cut, d) {
+        if is_cut(from, left, cut, d) {
+            let lo = rest_behind(q, d, from, left);
+            let hi = rest_behind(q, d, cut, rest);
+            let y = (x + r * i) / b;
+            n = n + cut_class(l, rows, s, lo, hi, y, r, turn, o, m * b, size);
+        } else if is_whole(first, cut, d) {
             if s == 0 {
                 n = n + size;
             } else {
                 n = n + next_axis(l, rows, s - 1, o, m * b, size);
             }
-        } else if is_cut(from, left, cut, d) {
-            let lo = rest_behind(q, d, from, left);
-            let hi = rest_behind(q, d, cut, rest);
-            let y = (x + r * i) / b;
-            n = n + cut_class(l, rows, s, lo, hi, y, r, o, m * b, size);
         }
         e = next_digit(e, turn, b);
         i += 1;
@@ -237,11 +256,12 @@ fn cut_class(
     u: u64,
     x: u64,
     r: u64,
+    turn: u64,
     t: u64,
     m: u64,
     k: u64,
 ) -> u64
-    requires { ⌜ Held (now l) (now rows) (s + 1) × (v ≤ 2 ^ 24) × (u ≤ 2 ^ 24) × Reads x r k × Steps (now rows) s t m k ⌝ }
+    requires { ⌜ Held (now l) (now rows) (s + 1) × (v ≤ 2 ^ 24) × (u ≤ 2 ^ 24) × Reads x r k × (turn ≡ r % baseIn (now rows) s) × Steps (now rows) s t m k ⌝ }
     ensures { λ n. ⌜ n ≡ count (inClass (tableAxes (now (l .entry)) (now (rows .entry))) s v u x r t m) k ⌝ }
 {
     if u <= v {
@@ -253,7 +273,7 @@ fn cut_class(
     if k == 1 {
         return one_step(l, rows, s, v, u, x, t);
     }
-    split_class(l, rows, s, v, u, x, r, t, m, k)
+    split_class(l, rows, s, v, u, x, r, turn, t, m, k)
 }
 
 // How many of the steps t + m × i, i below `k`, are inside on axis `s` and those before it. A whole axis is passed over.
@@ -272,7 +292,19 @@ fn next_axis(l: &[u8], rows: &[u64], s: usize, t: u64, m: u64, k: u64) -> u64
     if is_uncut(v, u, rows[5 * s + 4]) {
         return count_class(l, rows, s, t, m, k);
     }
-    cut_class(l, rows, s, v, u, rows[5 * s + 1] + t, m, t, m, k)
+    cut_class(
+        l,
+        rows,
+        s,
+        v,
+        u,
+        rows[5 * s + 1] + t,
+        m,
+        m % rows[5 * s],
+        t,
+        m,
+        k,
+    )
 }
 
 // How many of the steps t + m × i, i below `k`, are inside on the first `s` axes.

@@ -34,6 +34,8 @@ use Rattle.class_count.proofs.inside_step.Reads as inside-step-reads
 use Rattle.class_count.proofs.is_cut.Reads as is-cut-reads
 use Rattle.class_count.proofs.is_uncut.Reads as is-uncut-reads
 use Rattle.class_count.proofs.is_whole.Reads as is-whole-reads
+use Rattle.class_count.proofs.lower_digit.Reads as lower-digit-reads
+use Rattle.class_count.proofs.lower_rest.Reads as lower-rest-reads
 use Rattle.class_count.proofs.next_digit.Reads as next-digit-reads
 use Rattle.class_count.proofs.one_step.Reads as one-step-reads
 use Rattle.class_count.proofs.rest_behind.Reads as rest-behind-reads
@@ -44,13 +46,13 @@ abbrev μ-count-class : Measures 2 count-class-kinds.ps ℕ
 μ-count-class κs a = 3 * (a .1 .1 .1 .1 .1 .0 + a .1 .1 .0)
 
 abbrev μ-cut-class : Measures 2 cut-class-kinds.ps ℕ
-μ-cut-class κs a = 3 * (a .1 .1 .1 .1 .1 .1 .1 .1 .1 .0 + a .1 .1 .0) + 1
+μ-cut-class κs a = 3 * (a .1 .1 .1 .1 .1 .1 .1 .1 .1 .1 .0 + a .1 .1 .0) + 1
 
 abbrev μ-next-axis : Measures 2 next-axis-kinds.ps ℕ
 μ-next-axis κs a = 3 * (a .1 .1 .1 .1 .1 .0 + a .1 .1 .0) + 2
 
 abbrev μ-split-class : Measures 2 split-class-kinds.ps ℕ
-μ-split-class κs a = 3 * (a .1 .1 .1 .1 .1 .1 .1 .1 .1 .0 + a .1 .1 .0)
+μ-split-class κs a = 3 * (a .1 .1 .1 .1 .1 .1 .1 .1 .1 .1 .0 + a .1 .1 .0)
 
 abbrev count-class-at : ℕ → In 2 count-class-kinds.ps
 count-class-at t = and 2 count-class-kinds.ps (is 2 count-class-kinds.ps μ-count-class t) count-class.Pre
@@ -84,7 +86,7 @@ abbrev cut-calls : ℕ → cut-class-lts.Claims
 cut-calls t = (one-step-reads.Asked, one-step-reads.Learnt, split-class-below t, split-class.Post)
 
 abbrev split-calls : ℕ → split-class-lts.Claims
-split-calls t = (first-whole-reads.Asked, first-whole-reads.Learnt, class-number-reads.Asked, class-number-reads.Learnt, class-size-reads.Asked, class-size-reads.Learnt, is-whole-reads.Asked, is-whole-reads.Learnt, next-axis-below t, next-axis.Post, is-cut-reads.Asked, is-cut-reads.Learnt, rest-behind-reads.Asked, rest-behind-reads.Learnt, cut-class-below t, cut-class.Post, next-digit-reads.Asked, next-digit-reads.Learnt)
+split-calls t = (lower-digit-reads.Asked, lower-digit-reads.Learnt, lower-rest-reads.Asked, lower-rest-reads.Learnt, first-whole-reads.Asked, first-whole-reads.Learnt, class-number-reads.Asked, class-number-reads.Learnt, class-size-reads.Asked, class-size-reads.Learnt, is-cut-reads.Asked, is-cut-reads.Learnt, rest-behind-reads.Asked, rest-behind-reads.Learnt, cut-class-below t, cut-class.Post, is-whole-reads.Asked, is-whole-reads.Learnt, next-axis-below t, next-axis.Post, next-digit-reads.Asked, next-digit-reads.Learnt)
 
 abbrev axis-calls : ℕ → next-axis-lts.Claims
 axis-calls t = (inside-step-reads.Asked, inside-step-reads.Learnt, is-uncut-reads.Asked, is-uncut-reads.Learnt, count-class-below t, count-class.Post, cut-class-below t, cut-class.Post)
@@ -110,10 +112,10 @@ count-class-returns-2 t c = let a = c .before .before .before .before .args in
 
 -- the axis: its places, its start, and its ends
 taken : (t : ℕ) (c : next-axis-lts.Start (axis-calls t) (next-axis-at t) next-axis.Post) → let a = c .args in
-    0 < a .k → (5 * a .s + 4 < length (a .rows .now)) × (startIn (a .rows .now) (a .s) + a .t < 2 ^ 32)
+    0 < a .k → (5 * a .s + 4 < length (a .rows .now)) × (startIn (a .rows .now) (a .s) + a .t < 2 ^ 32) × (2 ≤ baseIn (a .rows .now) (a .s))
 taken t c h =
     let s = c .args .s in
-    (held-places (c .pre .1 .0) s (omega arith), omega (arith, c .pre .1 .1 .at 0 h .index s (omega arith)))
+    (held-places (c .pre .1 .0) s (omega arith), omega (arith, c .pre .1 .1 .at 0 h .index s (omega arith)), held-digits (c .pre .1 .0) s (omega arith) .low)
 
 next-axis-returns : (t : ℕ) → next-axis-lts.Need-returns (axis-calls t) (next-axis-at t) next-axis.Post
 next-axis-returns t c = count-empty _ (c .if1 .taken)
@@ -195,13 +197,25 @@ next-axis-shared-slice-read-cut-class t c = omega (arith, taken t (c .before .be
 next-axis-add-cut-class-2 : (t : ℕ) → next-axis-lts.Need-add-cut-class-2 (axis-calls t) (next-axis-at t) next-axis.Post
 next-axis-add-cut-class-2 t c = omega (arith, taken t (c .before .before .before .before .before .before .before .before .before .before) (omega arith))
 
+next-axis-mul-cut-class-3 : (t : ℕ) → next-axis-lts.Need-mul-cut-class-3 (axis-calls t) (next-axis-at t) next-axis.Post
+next-axis-mul-cut-class-3 t c = omega (arith, taken t (c .before .before .before .before .before .before .before .before .before .before) (omega arith))
+
+next-axis-mul-cut-class-4 : (t : ℕ) → next-axis-lts.Need-mul-cut-class-4 (axis-calls t) (next-axis-at t) next-axis.Post
+next-axis-mul-cut-class-4 t c = omega (arith, taken t (c .before .before .before .before .before .before .before .before .before .before) (omega arith))
+
+next-axis-shared-slice-read-cut-class-2 : (t : ℕ) → next-axis-lts.Need-shared-slice-read-cut-class-2 (axis-calls t) (next-axis-at t) next-axis.Post
+next-axis-shared-slice-read-cut-class-2 t c = omega (arith, taken t (c .before .before .before .before .before .before .before .before .before .before .before) (omega arith))
+
+next-axis-rem-cut-class : (t : ℕ) → next-axis-lts.Need-rem-cut-class (axis-calls t) (next-axis-at t) next-axis.Post
+next-axis-rem-cut-class t c = omega (arith, taken t (c .before .before .before .before .before .before .before .before .before .before .before) (omega arith))
+
 next-axis-cut-class-requires : (t : ℕ) → next-axis-lts.Need-cut-class-requires (axis-calls t) (next-axis-at t) next-axis.Post
-next-axis-cut-class-requires t c κs = let s = c .before .before .before .before .before .before .before .before .before .before in
+next-axis-cut-class-requires t c κs = let s = c .before .before .before .before .before .before .before .before .before .before .before in
     let e = held-ends (s .pre .1 .0) (s .args .s) (omega arith) in
-    (omega (arith, s .pre .0), (s .pre .1 .0, e .l-small, e .u-small, steps-reads (s .pre .1 .1) (s .args .s) (omega arith), steps-less (s .pre .1 .1) (s .args .s) (omega arith)))
+    (omega (arith, s .pre .0), (s .pre .1 .0, e .l-small, e .u-small, steps-reads (s .pre .1 .1) (s .args .s) (omega arith), refl, steps-less (s .pre .1 .1) (s .args .s) (omega arith)))
 
 next-axis-returns-4 : (t : ℕ) → next-axis-lts.Need-returns-4 (axis-calls t) (next-axis-at t) next-axis.Post
-next-axis-returns-4 t c = let a = c .before .before .before .before .before .before .before .before .before .before .before .args in
+next-axis-returns-4 t c = let a = c .before .before .before .before .before .before .before .before .before .before .before .before .args in
     c .cut-class .ensures ∙ sym (axes-more (a .l .now) (a .rows .now) (a .s) (a .t) (a .m) (a .k))
 
 -- ---- a class whose axis is being cut
@@ -214,7 +228,7 @@ cut-class-returns-2 t c = count-empty _ (c .if2 .taken)
 
 cut-class-one-step-requires : (t : ℕ) → cut-class-lts.Need-one-step-requires (cut-calls t) (cut-class-at t) cut-class.Post
 cut-class-one-step-requires t c κs = let s = c .before .before .before .before .before in
-    (s .pre .1 .0, s .pre .1 .1, s .pre .1 .2, omega (arith, s .pre .1 .3 .reach 0 (omega arith)), subst (λ (o : ℕ). Step (s .args .rows .now) (s .args .s) o) (first (s .args .t) (s .args .m)) (s .pre .1 .4 .at 0 (omega arith)))
+    (s .pre .1 .0, s .pre .1 .1, s .pre .1 .2, omega (arith, s .pre .1 .3 .reach 0 (omega arith)), subst (λ (o : ℕ). Step (s .args .rows .now) (s .args .s) o) (first (s .args .t) (s .args .m)) (s .pre .1 .5 .at 0 (omega arith)))
 
 cut-class-returns-3 : (t : ℕ) → cut-class-lts.Need-returns-3 (cut-calls t) (cut-class-at t) cut-class.Post
 cut-class-returns-3 t c = let a = c .before .before .before .before .before .before .args in
@@ -222,7 +236,7 @@ cut-class-returns-3 t c = let a = c .before .before .before .before .before .bef
 
 cut-class-split-class-requires : (t : ℕ) → cut-class-lts.Need-split-class-requires (cut-calls t) (cut-class-at t) cut-class.Post
 cut-class-split-class-requires t c κs = let s = c .before .before .before .before .before in
-    (omega (arith, s .pre .0), (s .pre .1 .0, s .pre .1 .1, s .pre .1 .2, s .pre .1 .3, s .pre .1 .4, omega (arith, c .if3 .left, c .before .if2 .left)))
+    (omega (arith, s .pre .0), (s .pre .1 .0, s .pre .1 .1, s .pre .1 .2, s .pre .1 .3, s .pre .1 .4, s .pre .1 .5, omega (arith, c .if3 .left, c .before .if2 .left)))
 
 cut-class-returns-4 : (t : ℕ) → cut-class-lts.Need-returns-4 (cut-calls t) (cut-class-at t) cut-class.Post
 cut-class-returns-4 t c = c .split-class .ensures
@@ -230,10 +244,10 @@ cut-class-returns-4 t c = c .split-class .ensures
 -- ---- a class that splits
 
 abbrev Inv-loop : split-class-lts.InvT-loop
-Inv-loop l rows s v u x r t m k b q from left cut rest first low more turn end e₀ n₀ i₀ e n i = Split l rows s v u x r t m k e n i × (i ≤ end)
+Inv-loop l rows s v u x r turn t m k b q from left cut rest first low more end e₀ n₀ i₀ e n i = Split l rows s v u x r t m k e n i × (i ≤ end)
 
 abbrev μ-loop : split-class-lts.MeasureT-loop
-μ-loop l rows s v u x r t m k b q from left cut rest first low more turn end e₀ n₀ i₀ e n i = end - i
+μ-loop l rows s v u x r turn t m k b q from left cut rest first low more end e₀ n₀ i₀ e n i = end - i
 
 -- the axis: its places, its base and its ends
 axis : (t : ℕ) (c : split-class-lts.Start (split-calls t) (split-class-at t) split-class.Post Inv-loop μ-loop) →
@@ -276,62 +290,53 @@ split-class-mul-q-2 t c = omega (arith, axis t (c .before .before .before))
 split-class-shared-slice-read-q : (t : ℕ) → split-class-lts.Need-shared-slice-read-q (split-calls t) (split-class-at t) split-class.Post Inv-loop μ-loop
 split-class-shared-slice-read-q t c = omega (arith, axis t (c .before .before .before .before))
 
-split-class-mul-from : (t : ℕ) → split-class-lts.Need-mul-from (split-calls t) (split-class-at t) split-class.Post Inv-loop μ-loop
-split-class-mul-from t c = omega (arith, axis t (c .before .before .before .before))
+split-class-lower-digit-requires : (t : ℕ) → split-class-lts.Need-lower-digit-requires (split-calls t) (split-class-at t) split-class.Post Inv-loop μ-loop
+split-class-lower-digit-requires t c κs = let e = axis t (c .before .before .before .before) in (e .5, e .3)
 
-split-class-div-from : (t : ℕ) → split-class-lts.Need-div-from (split-calls t) (split-class-at t) split-class.Post Inv-loop μ-loop
-split-class-div-from t c = omega (arith, axis t (c .before .before .before .before))
-
-split-class-mul-left : (t : ℕ) → split-class-lts.Need-mul-left (split-calls t) (split-class-at t) split-class.Post Inv-loop μ-loop
-split-class-mul-left t c = omega (arith, axis t (c .before .before .before .before))
-
-split-class-rem-left : (t : ℕ) → split-class-lts.Need-rem-left (split-calls t) (split-class-at t) split-class.Post Inv-loop μ-loop
-split-class-rem-left t c = omega (arith, axis t (c .before .before .before .before))
+split-class-lower-rest-requires : (t : ℕ) → split-class-lts.Need-lower-rest-requires (split-calls t) (split-class-at t) split-class.Post Inv-loop μ-loop
+split-class-lower-rest-requires t c κs = let e = axis t (c .before .before .before .before .before) in (e .5, e .3)
 
 split-class-mul-cut : (t : ℕ) → split-class-lts.Need-mul-cut (split-calls t) (split-class-at t) split-class.Post Inv-loop μ-loop
-split-class-mul-cut t c = omega (arith, axis t (c .before .before .before .before))
+split-class-mul-cut t c = omega (arith, axis t (c .before .before .before .before .before .before))
 
 split-class-div-cut : (t : ℕ) → split-class-lts.Need-div-cut (split-calls t) (split-class-at t) split-class.Post Inv-loop μ-loop
-split-class-div-cut t c = omega (arith, axis t (c .before .before .before .before))
+split-class-div-cut t c = omega (arith, axis t (c .before .before .before .before .before .before))
 
 split-class-mul-rest : (t : ℕ) → split-class-lts.Need-mul-rest (split-calls t) (split-class-at t) split-class.Post Inv-loop μ-loop
-split-class-mul-rest t c = omega (arith, axis t (c .before .before .before .before))
+split-class-mul-rest t c = omega (arith, axis t (c .before .before .before .before .before .before))
 
 split-class-rem-rest : (t : ℕ) → split-class-lts.Need-rem-rest (split-calls t) (split-class-at t) split-class.Post Inv-loop μ-loop
-split-class-rem-rest t c = omega (arith, axis t (c .before .before .before .before))
+split-class-rem-rest t c = omega (arith, axis t (c .before .before .before .before .before .before))
 
 split-class-first-whole-requires : (t : ℕ) → split-class-lts.Need-first-whole-requires (split-calls t) (split-class-at t) split-class.Post Inv-loop μ-loop
-split-class-first-whole-requires t c κs = let s = c .before .before .before .before in
-    omega (arith, div-le-self (s .args .v * baseIn (s .args .rows .now) (s .args .s)) (qIn (s .args .rows .now) (s .args .s)), axis t s)
+split-class-first-whole-requires t c κs = let s = c .before .before .before .before .before .before in
+    omega (arith, c .before .lower-digit .ensures, div-le-self (s .args .v * baseIn (s .args .rows .now) (s .args .s)) (qIn (s .args .rows .now) (s .args .s)), axis t s)
 
 split-class-div-low : (t : ℕ) → split-class-lts.Need-div-low (split-calls t) (split-class-at t) split-class.Post Inv-loop μ-loop
-split-class-div-low t c = omega (arith, axis t (c .before .before .before .before .before))
+split-class-div-low t c = omega (arith, axis t (c .before .before .before .before .before .before .before))
 
 split-class-rem-more : (t : ℕ) → split-class-lts.Need-rem-more (split-calls t) (split-class-at t) split-class.Post Inv-loop μ-loop
-split-class-rem-more t c = omega (arith, axis t (c .before .before .before .before .before))
-
-split-class-rem-turn : (t : ℕ) → split-class-lts.Need-rem-turn (split-calls t) (split-class-at t) split-class.Post Inv-loop μ-loop
-split-class-rem-turn t c = omega (arith, axis t (c .before .before .before .before .before))
+split-class-rem-more t c = omega (arith, axis t (c .before .before .before .before .before .before .before))
 
 split-class-class-number-requires : (t : ℕ) → split-class-lts.Need-class-number-requires (split-calls t) (split-class-at t) split-class.Post Inv-loop μ-loop
 split-class-class-number-requires t c κs = search needs
 
 split-class-rem-e : (t : ℕ) → split-class-lts.Need-rem-e (split-calls t) (split-class-at t) split-class.Post Inv-loop μ-loop
-split-class-rem-e t c = omega (arith, axis t (c .before .before .before .before .before .before))
+split-class-rem-e t c = omega (arith, axis t (c .before .before .before .before .before .before .before .before))
 
 split-class-loop-holds : (t : ℕ) → split-class-lts.Need-loop-holds (split-calls t) (split-class-at t) split-class.Post Inv-loop μ-loop
 split-class-loop-holds t c = (split-none _ _ _ _ _ _ _ _ _ _, omega arith)
 
 -- the digit of a turn: its place, its image and its range
 read : (t : ℕ) (c : split-class-lts.In-loop (split-calls t) (split-class-at t) split-class.Post Inv-loop μ-loop) →
-    let a = c .before .before .before .before .before .before .before .before .args in
+    let a = c .before .before .before .before .before .before .before .before .before .before .args in
     let e = c .before .loop .e in
     (256 * a .s + e < length (a .l .now)) × (imageFrom (a .l .now) (256 * a .s) e < 256) × (e < baseIn (a .rows .now) (a .s))
-read t c = split-image (c .before .loop .inv .0) (c .before .before .before .before .before .before .before .before .pre .1 .0)
+read t c = split-image (c .before .loop .inv .0) (c .before .before .before .before .before .before .before .before .before .before .pre .1 .0)
 
 -- a turn is that of a class with a step
 turn : (t : ℕ) (c : split-class-lts.In-loop (split-calls t) (split-class-at t) split-class.Post Inv-loop μ-loop) →
-    let a = c .before .before .before .before .before .before .before .before .args in
+    let a = c .before .before .before .before .before .before .before .before .before .before .args in
     let i = c .before .loop .i in
     (i < baseIn (a .rows .now) (a .s)) × (i < a .k)
 turn t c =
@@ -341,26 +346,34 @@ turn t c =
 
 -- its numbers are small
 low : (t : ℕ) (c : split-class-lts.In-loop (split-calls t) (split-class-at t) split-class.Post Inv-loop μ-loop) →
-    let a = c .before .before .before .before .before .before .before .before .args in
+    let a = c .before .before .before .before .before .before .before .before .before .before .args in
     let i = c .before .loop .i in
     (a .x + a .r * i < 2 ^ 32) × (a .t + a .m * i < 2 ^ 32) × (a .m * baseIn (a .rows .now) (a .s) ≤ 2 ^ 40)
 low t c =
-    let s = c .before .before .before .before .before .before .before .before in
+    let s = c .before .before .before .before .before .before .before .before .before .before in
     let h = turn t c .1 in
-    (s .pre .1 .3 .reach (c .before .loop .i) h, s .pre .1 .4 .low (c .before .loop .i) h, steps-times (s .pre .1 .4) (s .pre .1 .5) (axis t s .2))
+    (s .pre .1 .3 .reach (c .before .loop .i) h, s .pre .1 .5 .low (c .before .loop .i) h, steps-times (s .pre .1 .5) (s .pre .1 .6) (axis t s .2))
 
 -- the class of a turn
 size : (t : ℕ) (c : split-class-lts.After-class-size (split-calls t) (split-class-at t) split-class.Post Inv-loop μ-loop) →
-    let a = c .before .before .before .before .before .before .before .before .before .before .args in
+    let a = c .before .before .before .before .before .before .before .before .before .before .before .before .args in
     c .class-size .result ≡ classSize (baseIn (a .rows .now) (a .s)) (a .k) (c .before .before .before .loop .i)
 size t c =
-    let a = c .before .before .before .before .before .before .before .before .before .before .args in
+    let a = c .before .before .before .before .before .before .before .before .before .before .before .before .args in
     c .class-size .ensures ∙ class-by (baseIn (a .rows .now) (a .s)) (a .k) (c .before .before .before .loop .i) (turn t (c .before .before) .0)
 
-smaller : (t : ℕ) (c : split-class-lts.After-class-size (split-calls t) (split-class-at t) split-class.Post Inv-loop μ-loop) → c .class-size .result < c .before .before .before .before .before .before .before .before .before .before .args .k
+smaller : (t : ℕ) (c : split-class-lts.After-class-size (split-calls t) (split-class-at t) split-class.Post Inv-loop μ-loop) → c .class-size .result < c .before .before .before .before .before .before .before .before .before .before .before .before .args .k
 smaller t c =
-    let s = c .before .before .before .before .before .before .before .before .before .before in
-    omega (arith, size t c, class-lt (baseIn (s .args .rows .now) (s .args .s)) (s .args .k) (c .before .before .before .loop .i) (axis t s .1) (s .pre .1 .5))
+    let s = c .before .before .before .before .before .before .before .before .before .before .before .before in
+    omega (arith, size t c, class-lt (baseIn (s .args .rows .now) (s .args .s)) (s .args .k) (c .before .before .before .loop .i) (axis t s .1) (s .pre .1 .6))
+
+-- the lower end's digit, and what is left behind it
+lower : (t : ℕ) (c : split-class-lts.In-loop (split-calls t) (split-class-at t) split-class.Post Inv-loop μ-loop) →
+    let a = c .before .before .before .before .before .before .before .before .before .before .args in
+    let b = baseIn (a .rows .now) (a .s) in
+    let q = qIn (a .rows .now) (a .s) in
+    (c .before .before .before .before .before .lower-digit .result ≡ a .v * b / q) × (c .before .before .before .before .lower-rest .result ≡ a .v * b % q)
+lower t c = (c .before .before .before .before .before .lower-digit .ensures, c .before .before .before .before .lower-rest .ensures)
 
 -- the rests of a turn are no more than q
 rests : (t : ℕ) (c : split-class-lts.After-rest-behind2 (split-calls t) (split-class-at t) split-class.Post Inv-loop μ-loop) → (c .before .rest-behind .result ≤ 2 ^ 24) × (c .rest-behind2 .result ≤ 2 ^ 24)
@@ -372,72 +385,74 @@ rests t c =
     let q = qIn (a .rows .now) (a .s) in
     let f = mod-lt (a .v * b) {m = q} (e .3) in
     let g = mod-lt (a .u * b) {m = q} (e .3) in
-    (omega (arith, c .before .rest-behind .ensures .1 (omega arith), e .4), omega (arith, c .rest-behind2 .ensures .1 (omega arith), e .4))
+    (omega (arith, c .before .rest-behind .ensures .1 (omega (arith, lower t (c .before .before .before .before .before .before) .1)), e .4), omega (arith, c .rest-behind2 .ensures .1 (omega arith), e .4))
 
 -- one class more
 abbrev Next : (t : ℕ) (c : split-class-lts.In-loop (split-calls t) (split-class-at t) split-class.Post Inv-loop μ-loop) → ℕ → Type 0
 Next t c n =
-    let a = c .before .before .before .before .before .before .before .before .args in
+    let a = c .before .before .before .before .before .before .before .before .before .before .args in
     let b = baseIn (a .rows .now) (a .s) in
     let l = c .before .loop in
     Split (a .l .now) (a .rows .now) (a .s) (a .v) (a .u) (a .x) (a .r) (a .t) (a .m) (a .k) ((l .e + a .r % b) % b) n (l .i + 1)
 
--- a whole class, whose steps inside are y
-whole : (t : ℕ) (c : split-class-lts.Then1 (split-calls t) (split-class-at t) split-class.Post Inv-loop μ-loop) (y : ℕ) →
-    let a = c .before .before .before .before .before .before .before .before .before .before .before .before .args in
-    let i = c .before .before .before .before .before .loop .i in
-    y ≡ count (insideAlong (tableAxes (a .l .now) (a .rows .now)) (a .s) (a .t + a .m * i) (a .m * baseIn (a .rows .now) (a .s))) (c .before .before .class-size .result)
-    → Next t (c .before .before .before .before) (c .before .before .before .before .before .loop .n + y)
-unfolding imageFrom
-whole t c y made =
-    let i = c .before .before .before .before in
-    let s = c .before .before .before .before .before .before .before .before .before .before .before .before in
-    let e = c .before .is-whole .ensures .0 (c .if1 .taken) in
-    split-inside (i .before .loop .inv .0) (turn t i .0) (s .pre .1 .0) (s .pre .1 .3) refl (size t (c .before .before))
-    (omega (arith, e .0, i .before .before .before .first-whole .ensures)) (e .1) made
-
-after-last : (t : ℕ) (c : split-class-lts.Then2 (split-calls t) (split-class-at t) split-class.Post Inv-loop μ-loop) → Next t (c .before .before .before .before .before) (c .before .before .before .before .before .before .loop .n + c .before .before .before .class-size .result)
-after-last t c =
-    let a = c .before .before .before .before .before .before .before .before .before .before .before .before .before .args in
-    let i = c .before .before .before .before .before .before .loop .i in
-    whole t (c .before) (c .before .before .before .class-size .result)
-    (axes-last (a .l .now) (a .rows .now) (a .t + a .m * i) (a .m * baseIn (a .rows .now) (a .s)) (c .before .before .before .class-size .result) (c .if2 .taken))
-
-after-next : (t : ℕ) (c : split-class-lts.After-next-axis (split-calls t) (split-class-at t) split-class.Post Inv-loop μ-loop) → Next t (c .before .before .before .before .before .before) (c .before .before .before .before .before .before .before .loop .n + c .next-axis .result)
-after-next t c =
-    let a = c .before .before .before .before .before .before .before .before .before .before .before .before .before .before .args in
-    let i = c .before .before .before .before .before .before .before .loop .i in
-    whole t (c .before .before) (c .next-axis .result)
-    (c .next-axis .ensures ∙ axes-same (a .l .now) (a .rows .now) (a .t + a .m * i) (a .m * baseIn (a .rows .now) (a .s)) (c .before .before .before .before .class-size .result) (omega (arith, c .before .if2 .left)))
-
-after-cut : (t : ℕ) (c : split-class-lts.After-cut-class (split-calls t) (split-class-at t) split-class.Post Inv-loop μ-loop) → Next t (c .before .before .before .before .before .before .before .before .before) (c .before .before .before .before .before .before .before .before .before .before .loop .n + c .cut-class .result)
+after-cut : (t : ℕ) (c : split-class-lts.After-cut-class (split-calls t) (split-class-at t) split-class.Post Inv-loop μ-loop) → Next t (c .before .before .before .before .before .before .before) (c .before .before .before .before .before .before .before .before .loop .n + c .cut-class .result)
 unfolding imageFrom
 after-cut t c =
-    let i = c .before .before .before .before .before .before .before .before .before in
+    let i = c .before .before .before .before .before .before .before in
     let s = c .before .before .before .before .before .before .before .before .before .before .before .before .before .before .before .before .before in
-    split-behind (i .before .loop .inv .0) (turn t i .0) (s .pre .1 .0) (s .pre .1 .3) refl (size t (c .before .before .before .before .before .before .before))
-    (c .before .before .rest-behind .ensures .0) (c .before .rest-behind2 .ensures .0) (c .cut-class .ensures)
+    split-behind (i .before .loop .inv .0) (turn t i .0) (s .pre .1 .0) (s .pre .1 .3) refl (size t (c .before .before .before .before .before))
+    (rw (← lower t i .0, ← lower t i .1) (c .before .before .rest-behind .ensures .0)) (c .before .rest-behind2 .ensures .0) (c .cut-class .ensures)
 
-after-outside : (t : ℕ) (c : split-class-lts.Else3 (split-calls t) (split-class-at t) split-class.Post Inv-loop μ-loop) → Next t (c .before .before .before .before .before .before) (c .before .before .before .before .before .before .before .loop .n)
+-- a whole class, whose steps inside are y
+whole : (t : ℕ) (c : split-class-lts.Then2 (split-calls t) (split-class-at t) split-class.Post Inv-loop μ-loop) (y : ℕ) →
+    let a = c .before .before .before .before .before .before .before .before .before .before .before .before .before .before .before .before .args in
+    let i = c .before .before .before .before .before .before .before .loop .i in
+    y ≡ count (insideAlong (tableAxes (a .l .now) (a .rows .now)) (a .s) (a .t + a .m * i) (a .m * baseIn (a .rows .now) (a .s))) (c .before .before .before .before .class-size .result)
+    → Next t (c .before .before .before .before .before .before) (c .before .before .before .before .before .before .before .loop .n + y)
+unfolding imageFrom
+whole t c y made =
+    let i = c .before .before .before .before .before .before in
+    let s = c .before .before .before .before .before .before .before .before .before .before .before .before .before .before .before .before in
+    let e = c .before .is-whole .ensures .0 (c .if2 .taken) in
+    split-inside (i .before .loop .inv .0) (turn t i .0) (s .pre .1 .0) (s .pre .1 .3) refl (size t (c .before .before .before .before))
+    (rw (← lower t i .0, ← lower t i .1) (omega (arith, e .0, i .before .before .before .first-whole .ensures))) (e .1) made
+
+after-last : (t : ℕ) (c : split-class-lts.Then3 (split-calls t) (split-class-at t) split-class.Post Inv-loop μ-loop) → Next t (c .before .before .before .before .before .before .before) (c .before .before .before .before .before .before .before .before .loop .n + c .before .before .before .before .before .class-size .result)
+after-last t c =
+    let a = c .before .before .before .before .before .before .before .before .before .before .before .before .before .before .before .before .before .args in
+    let i = c .before .before .before .before .before .before .before .before .loop .i in
+    whole t (c .before) (c .before .before .before .before .before .class-size .result)
+    (axes-last (a .l .now) (a .rows .now) (a .t + a .m * i) (a .m * baseIn (a .rows .now) (a .s)) (c .before .before .before .before .before .class-size .result) (c .if3 .taken))
+
+after-next : (t : ℕ) (c : split-class-lts.After-next-axis (split-calls t) (split-class-at t) split-class.Post Inv-loop μ-loop) → Next t (c .before .before .before .before .before .before .before .before) (c .before .before .before .before .before .before .before .before .before .loop .n + c .next-axis .result)
+after-next t c =
+    let a = c .before .before .before .before .before .before .before .before .before .before .before .before .before .before .before .before .before .before .args in
+    let i = c .before .before .before .before .before .before .before .before .before .loop .i in
+    whole t (c .before .before) (c .next-axis .result)
+    (c .next-axis .ensures ∙ axes-same (a .l .now) (a .rows .now) (a .t + a .m * i) (a .m * baseIn (a .rows .now) (a .s)) (c .before .before .before .before .before .before .class-size .result) (omega (arith, c .before .if3 .left)))
+
+after-outside : (t : ℕ) (c : split-class-lts.Else2 (split-calls t) (split-class-at t) split-class.Post Inv-loop μ-loop) → Next t (c .before .before .before .before .before .before) (c .before .before .before .before .before .before .before .loop .n)
 unfolding imageFrom
 after-outside t c =
     let i = c .before .before .before .before .before .before in
-    let s = c .before .before .before .before .before .before .before .before .before .before .before .before .before .before in
-    let e = c .before .is-cut .ensures (c .if3 .left) in
-    split-outside (i .before .loop .inv .0) (turn t i .0) (s .pre .1 .0) (s .pre .1 .3) refl (size t (c .before .before .before .before)) (e .0) (e .1)
-    (λ h. c .before .before .before .is-whole .ensures .1 (c .before .before .if1 .left) (omega (arith, h, i .before .before .before .first-whole .ensures)))
+    let s = c .before .before .before .before .before .before .before .before .before .before .before .before .before .before .before .before in
+    let e = c .before .before .before .is-cut .ensures (c .before .before .if1 .left) in
+    split-outside (i .before .loop .inv .0) (turn t i .0) (s .pre .1 .0) (s .pre .1 .3) refl (size t (c .before .before .before .before)) (e .0) (rw (← lower t i .0, ← lower t i .1) (e .1))
+    (λ h. c .before .is-whole .ensures .1 (c .if2 .left) (omega (arith, rw (← lower t i .0, ← lower t i .1) at h, i .before .before .before .first-whole .ensures)))
 
 -- whichever way the arms were left
 met : (t : ℕ) (c : split-class-lts.Joined1 (split-calls t) (split-class-at t) split-class.Post Inv-loop μ-loop) → Next t (c .before .before .before .before) (c .if1 .n)
 met t c =
     ⊎-elim
-    (λ w. rw (w .2) (after-last t (record { before = record { before = c .before; if1 = w .0 }; if2 = w .1 })))
+    (λ w. rw (w .4)
+    (after-cut t (record { before = record { before = record { before = record { before = c .before; if1 = w .0 }; rest-behind = w .1 }; rest-behind2 = w .2 }; cut-class = w .3 })))
     (⊎-elim
-    (λ w. rw (w .3) (after-next t (record { before = record { before = record { before = c .before; if1 = w .0 }; if2 = w .1 }; next-axis = w .2 })))
+    (λ w. rw (w .4)
+    (after-last t (record { before = record { before = record { before = record { before = c .before; if1 = w .0 }; is-whole = w .1 }; if2 = w .2 }; if3 = w .3 })))
     (⊎-elim
-    (λ w. rw (w .6)
-    (after-cut t (record { before = record { before = record { before = record { before = record { before = record { before = c .before; if1 = w .0 }; is-cut = w .1 }; if3 = w .2 }; rest-behind = w .3 }; rest-behind2 = w .4 }; cut-class = w .5 })))
-    (λ w. rw (w .3) (after-outside t (record { before = record { before = record { before = c .before; if1 = w .0 }; is-cut = w .1 }; if3 = w .2 })))))
+    (λ w. rw (w .5)
+    (after-next t (record { before = record { before = record { before = record { before = record { before = c .before; if1 = w .0 }; is-whole = w .1 }; if2 = w .2 }; if3 = w .3 }; next-axis = w .4 })))
+    (λ w. rw (w .3) (after-outside t (record { before = record { before = record { before = c .before; if1 = w .0 }; is-whole = w .1 }; if2 = w .2 })))))
     (c .if1 .came)
 
 split-class-mul-d : (t : ℕ) → split-class-lts.Need-mul-d (split-calls t) (split-class-at t) split-class.Post Inv-loop μ-loop
@@ -454,35 +469,14 @@ unfolding imageFrom
 split-class-cast-d t c = omega (arith, read t (c .before) .1)
 
 split-class-class-size-requires : (t : ℕ) → split-class-lts.Need-class-size-requires (split-calls t) (split-class-at t) split-class.Post Inv-loop μ-loop
-split-class-class-size-requires t c κs = let s = c .before .before .before .before .before .before .before .before .before in
-    omega (arith, div-le-self (s .args .k) (baseIn (s .args .rows .now) (s .args .s)), s .pre .1 .4 .few)
+split-class-class-size-requires t c κs = let s = c .before .before .before .before .before .before .before .before .before .before .before in
+    omega (arith, div-le-self (s .args .k) (baseIn (s .args .rows .now) (s .args .s)), s .pre .1 .5 .few)
 
 split-class-mul-o : (t : ℕ) → split-class-lts.Need-mul-o (split-calls t) (split-class-at t) split-class.Post Inv-loop μ-loop
 split-class-mul-o t c = omega (arith, low t (c .before .before))
 
 split-class-add-o : (t : ℕ) → split-class-lts.Need-add-o (split-calls t) (split-class-at t) split-class.Post Inv-loop μ-loop
 split-class-add-o t c = omega (arith, low t (c .before .before))
-
-split-class-is-whole-requires : (t : ℕ) → split-class-lts.Need-is-whole-requires (split-calls t) (split-class-at t) split-class.Post Inv-loop μ-loop
-split-class-is-whole-requires t c κs = search needs
-
-split-class-add-n : (t : ℕ) → split-class-lts.Need-add-n (split-calls t) (split-class-at t) split-class.Post Inv-loop μ-loop
-split-class-add-n t c = omega (arith, split-le (after-last t c), c .before .before .before .before .before .before .before .before .before .before .before .before .before .pre .1 .4 .few)
-
-split-class-sub-next-axis : (t : ℕ) → split-class-lts.Need-sub-next-axis (split-calls t) (split-class-at t) split-class.Post Inv-loop μ-loop
-split-class-sub-next-axis t c = omega (arith, c .if2 .left)
-
-split-class-mul-next-axis : (t : ℕ) → split-class-lts.Need-mul-next-axis (split-calls t) (split-class-at t) split-class.Post Inv-loop μ-loop
-split-class-mul-next-axis t c = omega (arith, low t (c .before .before .before .before .before))
-
-split-class-next-axis-requires : (t : ℕ) → split-class-lts.Need-next-axis-requires (split-calls t) (split-class-at t) split-class.Post Inv-loop μ-loop
-split-class-next-axis-requires t c κs = let s = c .before .before .before .before .before .before .before .before .before .before .before .before .before in
-    let z = c .before .before .before in
-    let h : s .args .s - 1 + 1 ≤ s .args .s = omega (arith, c .if2 .left) in
-    (omega (arith, s .pre .0, smaller t z), (held-less (s .pre .1 .0) (s .args .s - 1 + 1) (omega arith), steps-less (steps-split (turn t (c .before .before .before .before .before) .0) (size t z) (s .pre .1 .4)) (s .args .s - 1 + 1) h))
-
-split-class-add-n-2 : (t : ℕ) → split-class-lts.Need-add-n-2 (split-calls t) (split-class-at t) split-class.Post Inv-loop μ-loop
-split-class-add-n-2 t c = omega (arith, split-le (after-next t c), c .before .before .before .before .before .before .before .before .before .before .before .before .before .before .pre .1 .4 .few)
 
 split-class-is-cut-requires : (t : ℕ) → split-class-lts.Need-is-cut-requires (split-calls t) (split-class-at t) split-class.Post Inv-loop μ-loop
 split-class-is-cut-requires t c κs = search needs
@@ -494,54 +488,85 @@ split-class-rest-behind-requires-2 : (t : ℕ) → split-class-lts.Need-rest-beh
 split-class-rest-behind-requires-2 t c κs = search needs
 
 split-class-mul-y : (t : ℕ) → split-class-lts.Need-mul-y (split-calls t) (split-class-at t) split-class.Post Inv-loop μ-loop
-split-class-mul-y t c = omega (arith, low t (c .before .before .before .before .before .before .before .before))
+split-class-mul-y t c = omega (arith, low t (c .before .before .before .before .before .before))
 
 split-class-add-y : (t : ℕ) → split-class-lts.Need-add-y (split-calls t) (split-class-at t) split-class.Post Inv-loop μ-loop
-split-class-add-y t c = omega (arith, low t (c .before .before .before .before .before .before .before .before))
+split-class-add-y t c = omega (arith, low t (c .before .before .before .before .before .before))
 
 split-class-div-y : (t : ℕ) → split-class-lts.Need-div-y (split-calls t) (split-class-at t) split-class.Post Inv-loop μ-loop
 split-class-div-y t c = omega (arith, axis t (c .before .before .before .before .before .before .before .before .before .before .before .before .before .before .before .before))
 
 split-class-mul-cut-class : (t : ℕ) → split-class-lts.Need-mul-cut-class (split-calls t) (split-class-at t) split-class.Post Inv-loop μ-loop
-split-class-mul-cut-class t c = omega (arith, low t (c .before .before .before .before .before .before .before .before))
+split-class-mul-cut-class t c = omega (arith, low t (c .before .before .before .before .before .before))
 
 split-class-cut-class-requires : (t : ℕ) → split-class-lts.Need-cut-class-requires (split-calls t) (split-class-at t) split-class.Post Inv-loop μ-loop
 split-class-cut-class-requires t c κs = let s = c .before .before .before .before .before .before .before .before .before .before .before .before .before .before .before .before in
-    let z = c .before .before .before .before .before .before in
-    let i = c .before .before .before .before .before .before .before .before in (
+    let z = c .before .before .before .before in
+    let i = c .before .before .before .before .before .before in (
       omega (arith, s .pre .0, smaller t z),
       (
         s .pre .1 .0,
         rests t c .0,
         rests t c .1,
         reads-split (turn t i .0) (size t z) (s .pre .1 .3),
-        steps-split (turn t i .0) (size t z) (s .pre .1 .4),
+        s .pre .1 .4,
+        steps-split (turn t i .0) (size t z) (s .pre .1 .5),
       ),
     )
 
+split-class-add-n : (t : ℕ) → split-class-lts.Need-add-n (split-calls t) (split-class-at t) split-class.Post Inv-loop μ-loop
+split-class-add-n t c = omega (arith, split-le (after-cut t c), c .before .before .before .before .before .before .before .before .before .before .before .before .before .before .before .before .before .pre .1 .5 .few)
+
+split-class-is-whole-requires : (t : ℕ) → split-class-lts.Need-is-whole-requires (split-calls t) (split-class-at t) split-class.Post Inv-loop μ-loop
+split-class-is-whole-requires t c κs = search needs
+
+split-class-add-n-2 : (t : ℕ) → split-class-lts.Need-add-n-2 (split-calls t) (split-class-at t) split-class.Post Inv-loop μ-loop
+split-class-add-n-2 t c = omega (arith, split-le (after-last t c), c .before .before .before .before .before .before .before .before .before .before .before .before .before .before .before .before .before .pre .1 .5 .few)
+
+split-class-sub-next-axis : (t : ℕ) → split-class-lts.Need-sub-next-axis (split-calls t) (split-class-at t) split-class.Post Inv-loop μ-loop
+split-class-sub-next-axis t c = omega (arith, c .if3 .left)
+
+split-class-mul-next-axis : (t : ℕ) → split-class-lts.Need-mul-next-axis (split-calls t) (split-class-at t) split-class.Post Inv-loop μ-loop
+split-class-mul-next-axis t c = omega (arith, low t (c .before .before .before .before .before .before .before))
+
+split-class-next-axis-requires : (t : ℕ) → split-class-lts.Need-next-axis-requires (split-calls t) (split-class-at t) split-class.Post Inv-loop μ-loop
+split-class-next-axis-requires t c κs = let s = c .before .before .before .before .before .before .before .before .before .before .before .before .before .before .before .before .before in
+    let z = c .before .before .before .before .before in
+    let h : s .args .s - 1 + 1 ≤ s .args .s = omega (arith, c .if3 .left) in
+    (omega (arith, s .pre .0, smaller t z), (held-less (s .pre .1 .0) (s .args .s - 1 + 1) (omega arith), steps-less (steps-split (turn t (c .before .before .before .before .before .before .before) .0) (size t z) (s .pre .1 .5)) (s .args .s - 1 + 1) h))
+
 split-class-add-n-3 : (t : ℕ) → split-class-lts.Need-add-n-3 (split-calls t) (split-class-at t) split-class.Post Inv-loop μ-loop
-split-class-add-n-3 t c = omega (arith, split-le (after-cut t c), c .before .before .before .before .before .before .before .before .before .before .before .before .before .before .before .before .before .pre .1 .4 .few)
+split-class-add-n-3 t c = omega (arith, split-le (after-next t c), c .before .before .before .before .before .before .before .before .before .before .before .before .before .before .before .before .before .before .pre .1 .5 .few)
 
 split-class-next-digit-requires : (t : ℕ) → split-class-lts.Need-next-digit-requires (split-calls t) (split-class-at t) split-class.Post Inv-loop μ-loop
-split-class-next-digit-requires t c κs = let q = axis t (c .before .before .before .before .before .before .before .before .before .before .before .before) in
-    (read t (c .before .before .before .before) .2, mod-lt (c .before .before .before .before .before .before .before .before .before .before .before .before .args .r) (omega (arith, q)), q .2)
+split-class-next-digit-requires t c κs = let q = axis t (c .before .before .before .before .before .before .before .before .before .before .before .before .before .before) in
+    (read t (c .before .before .before .before) .2, rw (c .before .before .before .before .before .before .before .before .before .before .before .before .before .before .pre .1 .4) (mod-lt (c .before .before .before .before .before .before .before .before .before .before .before .before .before .before .args .r) (omega (arith, q))), q .2)
 
 split-class-add-i : (t : ℕ) → split-class-lts.Need-add-i (split-calls t) (split-class-at t) split-class.Post Inv-loop μ-loop
-split-class-add-i t c = omega (arith, turn t (c .before .before .before .before .before) .0, axis t (c .before .before .before .before .before .before .before .before .before .before .before .before .before) .2)
+split-class-add-i t c = omega (arith, turn t (c .before .before .before .before .before) .0, axis t (c .before .before .before .before .before .before .before .before .before .before .before .before .before .before .before) .2)
 
 split-class-loop-less : (t : ℕ) → split-class-lts.Need-loop-less (split-calls t) (split-class-at t) split-class.Post Inv-loop μ-loop
 split-class-loop-less t c = omega (arith, c .before .before .before .before .before .loop-test .taken)
 
 abbrev split : (t : ℕ) (c : split-class-lts.After-next-digit (split-calls t) (split-class-at t) split-class.Post Inv-loop μ-loop) → ℕ → Type 0
 split t c e =
-    let a = c .before .before .before .before .before .before .before .before .before .before .before .before .before .args in
+    let a = c .before .before .before .before .before .before .before .before .before .before .before .before .before .before .before .args in
     Split (a .l .now) (a .rows .now) (a .s) (a .v) (a .u) (a .x) (a .r) (a .t) (a .m) (a .k) e (c .before .if1 .n) (c .before .before .before .before .before .before .loop .i + 1)
 
+-- the digit moves on by the stride's remainder
+moved : (t : ℕ) (c : split-class-lts.After-next-digit (split-calls t) (split-class-at t) split-class.Post Inv-loop μ-loop) →
+    let a = c .before .before .before .before .before .before .before .before .before .before .before .before .before .before .before .args in
+    let b = baseIn (a .rows .now) (a .s) in
+    (c .before .before .before .before .before .before .loop .e + a .turn) % b ≡ (c .before .before .before .before .before .before .loop .e + a .r % b) % b
+moved t c =
+    let a = c .before .before .before .before .before .before .before .before .before .before .before .before .before .before .before .args in
+    ap (λ (y : ℕ). (c .before .before .before .before .before .before .loop .e + y) % baseIn (a .rows .now) (a .s)) (c .before .before .before .before .before .before .before .before .before .before .before .before .before .before .before .pre .1 .4)
+
 split-class-loop-again : (t : ℕ) → split-class-lts.Need-loop-again (split-calls t) (split-class-at t) split-class.Post Inv-loop μ-loop
-split-class-loop-again t c = (subst (λ (e : ℕ). split t c e) (sym (c .next-digit .ensures)) (met t (c .before)), omega (arith, c .before .before .before .before .before .loop-test .taken))
+split-class-loop-again t c = (subst (λ (e : ℕ). split t c e) (sym (c .next-digit .ensures ∙ moved t c)) (met t (c .before)), omega (arith, c .before .before .before .before .before .loop-test .taken))
 
 split-class-returns : (t : ℕ) → split-class-lts.Need-returns (split-calls t) (split-class-at t) split-class.Post Inv-loop μ-loop
-split-class-returns t c = let s = c .before .before .before .before .before .before .before .before in
+split-class-returns t c = let s = c .before .before .before .before .before .before .before .before .before .before in
     let e = c .before .before .class-number .ensures in
     let n : c .before .loop .i ≡ c .before .before .class-number .result = omega (arith, c .before .loop .inv .1) in
     ⊎-elim
@@ -594,6 +619,10 @@ pub +count-class+cut-class+next-axis+split-class-spec : {M : Type 1} → stateme
     (next-axis-mul-cut-class-2 t)
     (next-axis-shared-slice-read-cut-class t)
     (next-axis-add-cut-class-2 t)
+    (next-axis-mul-cut-class-3 t)
+    (next-axis-mul-cut-class-4 t)
+    (next-axis-shared-slice-read-cut-class-2 t)
+    (next-axis-rem-cut-class t)
     (next-axis-cut-class-requires t)
     (next-axis-returns-4 t))
     λ t. split-class-lts.spec (split-calls t)
@@ -608,10 +637,8 @@ pub +count-class+cut-class+next-axis+split-class-spec : {M : Type 1} → stateme
     (split-class-add-q t)
     (split-class-mul-q-2 t)
     (split-class-shared-slice-read-q t)
-    (split-class-mul-from t)
-    (split-class-div-from t)
-    (split-class-mul-left t)
-    (split-class-rem-left t)
+    (split-class-lower-digit-requires t)
+    (split-class-lower-rest-requires t)
     (split-class-mul-cut t)
     (split-class-div-cut t)
     (split-class-mul-rest t)
@@ -619,7 +646,6 @@ pub +count-class+cut-class+next-axis+split-class-spec : {M : Type 1} → stateme
     (split-class-first-whole-requires t)
     (split-class-div-low t)
     (split-class-rem-more t)
-    (split-class-rem-turn t)
     (split-class-class-number-requires t)
     (split-class-rem-e t)
     (split-class-loop-holds t)
@@ -630,12 +656,6 @@ pub +count-class+cut-class+next-axis+split-class-spec : {M : Type 1} → stateme
     (split-class-class-size-requires t)
     (split-class-mul-o t)
     (split-class-add-o t)
-    (split-class-is-whole-requires t)
-    (split-class-add-n t)
-    (split-class-sub-next-axis t)
-    (split-class-mul-next-axis t)
-    (split-class-next-axis-requires t)
-    (split-class-add-n-2 t)
     (split-class-is-cut-requires t)
     (split-class-rest-behind-requires t)
     (split-class-rest-behind-requires-2 t)
@@ -644,6 +664,12 @@ pub +count-class+cut-class+next-axis+split-class-spec : {M : Type 1} → stateme
     (split-class-div-y t)
     (split-class-mul-cut-class t)
     (split-class-cut-class-requires t)
+    (split-class-add-n t)
+    (split-class-is-whole-requires t)
+    (split-class-add-n-2 t)
+    (split-class-sub-next-axis t)
+    (split-class-mul-next-axis t)
+    (split-class-next-axis-requires t)
     (split-class-add-n-3 t)
     (split-class-next-digit-requires t)
     (split-class-add-i t)

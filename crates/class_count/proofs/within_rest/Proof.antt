@@ -1,6 +1,4 @@
 -- `class_count::within_rest` meets its contract. Assumes nothing.
-use mathlib.Core.Path.{_∙_, sym, ap}
-use mathlib.Core.Bool.{not}
 use borrow.Author.Tests.{not-true, not-false}
 use Rattle.strips.proofs.TableLaws.{rest-out, rest-in, rest-free}
 use borrow.Author.Needs.{needs}
@@ -25,22 +23,12 @@ below-rest-requires-2 : tie.Need-below-rest-requires-2
 below-rest-requires-2 c κs = search needs
 
 returns-3 : tie.Need-returns-3
-returns-3 c = let f = c .before in
-    let i = f .before .before in
-    let e = i .before in
+returns-3 c = let i = c .before in
+    let e = i .before .before in
     let a = e .before .before .before .args in
-    ap not (sym (c .if3 .taken))
-    ∙ rest-in (a .l .now) (a .rows .now) (a .s) (a .v) (a .u) (a .x) (e .below-rest .ensures) (not-false (e .below-rest .result) (i .if1 .left)) (f .below-rest2 .ensures)
-
-returns-4 : tie.Need-returns-4
-returns-4 c = let f = c .before in
-    let i = f .before .before in
-    let e = i .before in
-    let a = e .before .before .before .args in
-    ap not (sym (c .if3 .left))
-    ∙ rest-in (a .l .now) (a .rows .now) (a .s) (a .v) (a .u) (a .x) (e .below-rest .ensures) (not-false (e .below-rest .result) (i .if1 .left)) (f .below-rest2 .ensures)
+    rest-in (a .l .now) (a .rows .now) (a .s) (a .v) (a .u) (a .x) (e .below-rest .ensures) (not-false (e .below-rest .result) (i .before .if1 .left)) (c .below-rest2 .ensures)
 
 pub within-rest-spec : {M : Type 1} → statement M
 within-rest-spec =
     tie.close
-    (tie.spec below-rest-requires returns returns-2 below-rest-requires-2 returns-3 returns-4)
+    (tie.spec below-rest-requires returns returns-2 below-rest-requires-2 returns-3)
