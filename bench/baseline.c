@@ -15,8 +15,7 @@ unsigned faure_image(unsigned b, unsigned k) {
     return r < c ? r : r + 1;
 }
 
-/* The images of all digits of base b, from base 2 up. */
-static void images(int family, unsigned b, uint8_t *t) {
+void baseline_images(int family, unsigned b, uint8_t *t) {
     if (family == 0) {
         for (unsigned k = 0; k < b; k++)
             t[k] = (uint8_t)k;
@@ -29,14 +28,14 @@ static void images(int family, unsigned b, uint8_t *t) {
     }
     unsigned h = b / 2;
     if (b % 2 == 0) {
-        images(family, h, t);
+        baseline_images(family, h, t);
         for (unsigned k = 0; k < h; k++) {
             t[h + k] = (uint8_t)(2 * t[k] + 1);
             t[k] = (uint8_t)(2 * t[k]);
         }
         return;
     }
-    images(family, b - 1, t);
+    baseline_images(family, b - 1, t);
     for (unsigned k = b - 1; k > h; k--)
         t[k] = (uint8_t)(t[k - 1] < h ? t[k - 1] : t[k - 1] + 1);
     t[h] = (uint8_t)h;
@@ -53,7 +52,7 @@ typedef struct {
 
 static void stepper_start(stepper_t *s, int family, unsigned b, uint64_t n) {
     s->base = b;
-    images(family, b, s->image);
+    baseline_images(family, b, s->image);
     s->depth = 0;
     s->denominator = 1;
     while (s->denominator < 4294967296u) {
@@ -171,7 +170,7 @@ void baseline_prepare(const plan_t *p, jumper_t *j) {
             d *= p->base[a];
             j->depth[a]++;
         }
-        images(p->family, p->base[a], j->image[a]);
+        baseline_images(p->family, p->base[a], j->image[a]);
         j->reciprocal[a] = UINT64_MAX / p->base[a] + 1;
     }
 }

@@ -14,6 +14,9 @@ typedef struct {
 /* Faure's image of digit k in base b, by his rules. */
 unsigned faure_image(unsigned b, unsigned k);
 
+/* The images of all digits of base b, from base 2 up. */
+void baseline_images(int family, unsigned b, uint8_t *t);
+
 /* `count` points from index `start` on, point after point; the tables are made at the start of each call. */
 void baseline_block(const plan_t *p, uint64_t start, size_t count, uint64_t *out);
 

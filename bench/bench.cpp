@@ -1,6 +1,6 @@
 // The calls beside their peers, in one run: nanoseconds a point or a call, and how many times as long the peer takes. The programs of a row take
-// turns, and each figure is the least of 101 turns, so that a slow spell of the machine meets them all. First it is checked that ours and plain C
-// write the same points.
+// turns, and each figure is the least of 101 turns (fewer for counts by strips), so that a slow spell of the machine meets them all. First it is
+// checked that ours and plain C write the same points.
 #include <algorithm>
 #include <chrono>
 #include <cstdio>
@@ -25,10 +25,10 @@ struct Program {
     std::function<void()> turn;
 };
 
-// Nanoseconds that each program takes for one point or call.
-static std::vector<double> race(const std::vector<Program> &programs) {
+// Nanoseconds that each program takes for one point or call: the least of so many turns.
+static std::vector<double> race(const std::vector<Program> &programs, int turns = 101) {
     std::vector<double> best(programs.size(), 1e300);
-    for (int i = 0; i < 101; i++)
+    for (int i = 0; i < turns; i++)
         for (size_t k = 0; k < programs.size(); k++) {
             auto t = std::chrono::steady_clock::now();
             programs[k].turn();
@@ -82,13 +82,20 @@ static void same_day_set(const Case &c) {
     check(ours == rows, c.name + ": points of a day set");
 }
 
-// Prints a row: the first program is ours.
-static void row(const std::string &name, const std::vector<Program> &programs) {
-    std::vector<double> ns = race(programs);
-    printf("| %-36s | %8.2f ns |", name.c_str(), ns[0]);
-    for (size_t k = 1; k < programs.size(); k++)
-        printf(" %s %.2f (x %.2f)", programs[k].name, ns[k], ns[k] / ns[0]);
+// Prints a row: the first figure is ours.
+static void print_row(const std::string &name, const char *unit, const std::vector<const char *> &names, const std::vector<double> &figures) {
+    printf("| %-36s | %8.2f %s |", name.c_str(), figures[0], unit);
+    for (size_t k = 1; k < names.size(); k++)
+        printf(" %s %.2f (x %.2f)", names[k], figures[k], figures[k] / figures[0]);
     printf(" |\n");
+}
+
+// Races the programs, of which the first is ours, and prints their row.
+static void row(const std::string &name, const std::vector<Program> &programs) {
+    std::vector<const char *> names;
+    for (const Program &p : programs)
+        names.push_back(p.name);
+    print_row(name, "ns", names, race(programs));
 }
 
 static Program gsl_points(const gsl_qrng_type *type, unsigned axes) {
@@ -194,9 +201,112 @@ static void counts(const std::vector<Case> &all) {
     for (const Case &c : all) {
         uint64_t n = 200000, s = 0, plain = 0;
         std::vector<uint64_t> window = window_of(c, {});
-        row(c.name, {{"ours", (double)n, [&] { s = bench_counts(c.bytes.data(), c.bytes.size(), 12345, n, window.data(), window.size(), 1); }},
+        row(c.name, {{"ours", (double)n, [&] { s = bench_counts(c.bytes.data(), c.bytes.size(), 12345, n, window.data(), window.size(), false, 1); }},
                      {"C", (double)n, [&] { plain = baseline_count(&c.plan, 12345, n, window.data()); }}});
         check(s == plain, c.name + ": S");
+    }
+}
+
+static std::vector<Case> strip_cases() {
+    std::vector<Case> cases;
+    for (int family : {0, 1})
+        for (const std::vector<unsigned> &bases : std::vector<std::vector<unsigned>>{
+                 {2}, {2, 3}, {2, 3, 5}, {2, 3, 5, 7, 11, 13}, {256}, {256, 255}, {256, 255, 253}, {256, 255, 253, 251, 247, 241}}) {
+            std::string name = family ? "permuted" : "Halton";
+            for (unsigned b : bases)
+                name += " " + std::to_string(b);
+            cases.push_back(halton(name.c_str(), family, bases));
+        }
+    return cases;
+}
+
+using Window = std::vector<uint64_t>;
+
+// Windows with cuts between 1/8 and 1 over the largest prime below 2^24, whose digits end in no base.
+static std::vector<Window> strip_windows(const Case &c) {
+    const uint64_t q = 16777213;
+    std::vector<Window> windows(3);
+    uint64_t i = 0;
+    for (Window &w : windows)
+        for (int a = 0; a < c.plan.axes; a++)
+            w.insert(w.end(), {q / 8 + ++i * 2654435761 % (q - q / 8), q});
+    return windows;
+}
+
+// The points of a run in the name of a row.
+static std::string points_of(uint64_t n) { return n == 10000 ? ", 10^4" : n == 1000000 ? ", 10^6" : ", 2^32 - 1"; }
+
+// Counts of each of some windows, so many times a turn, and their S in the order of the windows.
+struct Counter {
+    const char *name;
+    std::function<uint64_t(const Window &, uint64_t)> count; // so many times
+    std::vector<uint64_t> inside;
+
+    Program turn(const std::vector<Window> &windows, uint64_t times) {
+        return {name, 1000.0 * (double)(windows.size() * times), [this, &windows, times] {
+                    inside.clear();
+                    for (const Window &w : windows)
+                        inside.push_back(count(w, times));
+                }};
+    }
+};
+
+template <class Count> static std::function<uint64_t(const Window &, uint64_t)> repeated(Count count) {
+    return [count](const Window &w, uint64_t times) {
+        uint64_t s = 0;
+        for (uint64_t i = 0; i < times; i++)
+            s = count(w);
+        return s;
+    };
+}
+
+// Microseconds a window, in some 0.3 seconds; a turn has so many counts that it takes 50 µs or more.
+static std::vector<double> race_counts(std::vector<Counter> &counters, const std::vector<Window> &windows) {
+    auto programs = [&](uint64_t times) {
+        std::vector<Program> p;
+        for (Counter &c : counters)
+            p.push_back(c.turn(windows, times));
+        return p;
+    };
+    double all = 0;
+    std::vector<double> once = race(programs(1), 1);
+    for (double us : once)
+        all += us * (double)windows.size();
+    uint64_t times = (uint64_t)std::max(1.0, std::min(50.0, 50 / once[0]));
+    return race(programs(times), std::max(2, std::min(101, (int)(300000 / all / (double)times))));
+}
+
+// Counts by strips beside both counts in plain C and the walk. The walk over 2^32 - 1 points is computed from that over 10^6; six large bases are
+// walked there, and left out.
+static void strips() {
+    printf("\n## A window count by strips: µs a window\n\n| plan, points | ours | plain C and the walk, and how many times as long |\n|---|---|---|\n");
+    for (const Case &c : strip_cases()) {
+        std::vector<Window> windows = strip_windows(c);
+        double walk = 0; // µs a point
+        for (uint64_t n : {10000u, 1000000u, 4294967295u}) {
+            bool is_long = n > 1000000;
+            if (is_long && c.plan.base[0] == 256 && c.plan.axes == 6)
+                continue;
+            auto ours = [&](bool by_strips) {
+                return [&c, n, by_strips](const Window &w, uint64_t times) {
+                    return bench_counts(c.bytes.data(), c.bytes.size(), 0, n, w.data(), w.size(), by_strips, times);
+                };
+            };
+            std::vector<Counter> counters = {
+                {"ours", ours(true), {}},
+                {"C by classes", repeated([&](const Window &w) { return strips_by_classes(&c.plan, 0, n, w.data()); }), {}},
+                {"C by residues", repeated([&](const Window &w) { return strips_by_residues(&c.plan, 0, n, w.data()); }), {}}};
+            if (!is_long)
+                counters.push_back({"walk", ours(false), {}});
+            std::vector<double> us = race_counts(counters, windows);
+            for (const Counter &peer : counters)
+                check(peer.inside == counters[0].inside, c.name + points_of(n) + ": S of ours and of " + peer.name);
+            if (is_long)
+                us.push_back(walk * (double)n);
+            else
+                walk = us[3] / (double)n;
+            print_row(c.name + points_of(n), "µs", {"ours", "C by classes", "C by residues", is_long ? "walk, computed" : "walk"}, us);
+        }
     }
 }
 
@@ -269,6 +379,7 @@ int main() {
     small_blocks(all);
     day_blocks(all);
     counts(all);
+    strips();
     day_counts(all);
     axis_jumps();
     calls(all);

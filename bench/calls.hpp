@@ -8,6 +8,7 @@
 extern "C" {
 #include "baseline.h"
 #include "hisowake.h"
+#include "strips.h"
 // the calls on a state or a day set, in loops (crate bench_calls); a slice is a pointer and a length
 uint64_t bench_blocks(const uint8_t *plan, size_t plan_len, uint64_t start, uint64_t rounds, uint64_t *out, size_t out_len);
 uint64_t bench_day_blocks(const uint8_t *plan, size_t plan_len, uint64_t size, uint64_t rounds, uint64_t *out, size_t out_len);
@@ -17,7 +18,7 @@ uint64_t bench_axis_jumps(uint64_t family, uint64_t base, uint64_t first, uint64
 uint64_t bench_steps(const uint8_t *plan, size_t plan_len, uint64_t start, uint64_t rounds, uint64_t *out, size_t out_len);
 uint64_t bench_steps_in_place(const uint8_t *plan, size_t plan_len, uint64_t start, uint64_t rounds, uint64_t *out, size_t out_len);
 uint64_t bench_counts(const uint8_t *plan, size_t plan_len, uint64_t start, uint64_t count, const uint64_t *window, size_t window_len,
-                      uint64_t rounds);
+                      bool by_strips, uint64_t rounds);
 uint64_t bench_day_counts(const uint8_t *plan, size_t plan_len, uint64_t size, const uint64_t *window, size_t window_len, uint64_t rounds);
 }
 

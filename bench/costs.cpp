@@ -55,7 +55,7 @@ static std::vector<Call> calls() {
         {"block of 64", true,
          [](const Case &c, uint64_t n) { bench_blocks(c.bytes.data(), c.bytes.size(), 12345, n, lent(), 64 * (size_t)c.plan.axes); }},
         {"count of 1,000", true,
-         [](const Case &c, uint64_t n) { bench_counts(c.bytes.data(), c.bytes.size(), 12345, 1000, lent(), 2 * (size_t)c.plan.axes, n); }},
+         [](const Case &c, uint64_t n) { bench_counts(c.bytes.data(), c.bytes.size(), 12345, 1000, lent(), 2 * (size_t)c.plan.axes, false, n); }},
         {"day set: block of 64", true,
          [](const Case &c, uint64_t n) { bench_day_blocks(c.bytes.data(), c.bytes.size(), 1000, n, lent(), 64 * (size_t)(c.plan.axes + 1)); }},
         {"day set: count of 1,000, leading cut 1/2", true,

@@ -14,6 +14,7 @@ import windows
 from day_sets import day_sets
 from library import Careless, Library, WrongCount, WrongPoint, WrongRefusal
 from reference import HALTON, PERMUTED, SOBOL, Plan
+from strips import strips
 from verdict import Disagreement, same_answer
 
 BASES = range(2, 257)
@@ -148,6 +149,7 @@ PARTS = (
     ("reference, plan bytes", plan_strings, [Careless] + READING + POINT),
     ("reference, windows", window_counts, [Careless] + NUMBERS + COUNT),
     ("reference, day sets", day_sets, [WrongPoint]),
+    ("reference, strips", strips, NUMBERS[:1]),
 )
 
 

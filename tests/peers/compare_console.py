@@ -1,4 +1,5 @@
-"""Compares the console's answers with the reference's, on the stored tests and on random scripts, and tries how its input and output end.
+"""Compares the console's answers with the reference's, on the stored tests, on random scripts and on counts by strips over long runs, and tries how
+its input and output end.
 
 Usage: compare_console.py CONSOLE SEED."""
 import random
@@ -8,9 +9,14 @@ from collections import Counter
 from pathlib import Path
 
 import console
+import plans
+import reference
 import scripts
+import windows
+from reference import HALTON, PERMUTED
 
 SCRIPTS = 1000
+LONG_RUNS = 60
 
 
 def run(program, script):
@@ -51,6 +57,26 @@ def ends(program):
         sys.exit(f"an input that cannot be read is said by {said}")
 
 
+def strips(program, rng):
+    """Counts by strips: over runs that the reference walks beside both counts, and over long ones that it counts by strips too."""
+    for turn in range(LONG_RUNS):
+        is_walked = turn % 3 == 0
+        count = rng.randint(8192, 9000) if is_walked else rng.choice((rng.randint(10**6, 2**32 - 1), 2**32 - 1, 2**32))
+        plan = plans.random_plan(rng, rng.choice((HALTON, PERMUTED)), rng.randint(1, 3))
+        start = rng.choice((0, rng.randint(0, 2**32 - count), 2**32 - count))
+        reference_count = reference.count_inside if is_walked else reference.count_by_strips
+        lines, answers = [f"read {plans.bytes_of(plan).hex()}", f"open {count} {start}"], ["read 0", "open 0"]
+        for _ in range(4):
+            cuts = windows.strip_cuts(rng, plan, start, count, 100000)
+            words = " ".join(f"{u} {q}" for u, q in cuts)
+            inside, bound = reference_count(plan, start, count, cuts), reference.bound(plan, count)
+            for name in ("count", "strips") if is_walked else ("strips",):
+                lines.append(f"{name} {words}")
+                answers.append(f"{name} 0 {inside} {bound}")
+        script = "\n".join(lines).encode()
+        compare(f"long run {turn}", script, run(program, script), answers + [""])
+
+
 def random_scripts(program, rng):
     """Scripts of ten parts each; how often each call gave each code."""
     met = Counter()
@@ -74,6 +100,7 @@ EVERY = {
     "place": [0, 12, 13, 15],
     "block": [0, 12, 13, 15],
     "count": [0, 14, 15],
+    "strips": [0, 14, 15],
     "day": [0, 11, 15],
     "dayjump": [0, 11, 13, 15],
     "daystep": [0, 12, 13, 15],
@@ -87,12 +114,14 @@ def main():
     print(f"console: seed {seed}")
     stored(program)
     ends(program)
+    strips(program, random.Random(seed))
     met = random_scripts(program, random.Random(seed))
     for name, codes in EVERY.items():
         for code in codes:
             if met[f"{name} {code}"] < 3:
                 sys.exit(f"the answer {name} {code} was only met {met[f'{name} {code}']} times")
     print(f"console: {sum(met.values())} answers of {SCRIPTS} random scripts are the reference's, {met['lines in error']} of them of lines in error")
+    print(f"console: so are the counts by strips over {LONG_RUNS} long runs")
 
 
 main()

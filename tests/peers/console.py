@@ -231,6 +231,7 @@ CALLS = {
     "place": partial(step, Run, "place ROOM"),
     "block": partial(block, Run, "block ROOM"),
     "count": partial(count, Run, "count U Q U Q .."),
+    "strips": partial(count, Run, "strips U Q U Q .."),
     "state": partial(show, Run, "state alone"),
     "poke": partial(poke, Run, "poke PLACE VALUE"),
     "blank": partial(blank, Run, "blank alone"),

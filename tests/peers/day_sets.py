@@ -7,7 +7,7 @@ import plans
 import reference
 import windows
 from reference import HALTON, SOBOL, Plan
-from verdict import Disagreement, same_answer
+from verdict import Disagreement, agree, same_answer
 
 # the ten-element set of section 4, in base 2
 PRINTED = "0 0, 1/10 1/2, 1/5 1/4, 3/10 3/4, 2/5 1/8, 1/2 5/8, 3/5 3/8, 7/10 7/8, 4/5 1/16, 9/10 9/16"
@@ -17,11 +17,6 @@ def fractions(plan, size):
     """The points of a day set: n / N, then numerator / denominator on each axis of the plan."""
     below = [size] + reference.denominators(plan)
     return [tuple(map(Fraction, here, below)) for here in reference.day_points(plan, 0, size)]
-
-
-def agree(question, ours, theirs):
-    if ours != theirs:
-        raise Disagreement(f"{question}: the reference has {ours} and not {theirs}")
 
 
 def day_sets(library, peers, rng):

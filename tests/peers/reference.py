@@ -1,5 +1,5 @@
-"""Plans, points, window counts and day sets in plain Python, written from the papers alone: the scope document 01, K1 of the change requests 02,
-and the source documents 001 (Faure's permutations), 002 and 004 (van der Corput, Halton, Hammersley) and 003 (Sobol). It shares nothing with the
+"""Plans, points, window counts and day sets in plain Python, written from the papers alone: the scope document 01, K1 and K2 of the change requests
+02, and the source documents 001 (Faure's permutations), 002 and 004 (van der Corput, Halton, Hammersley) and 003 (Sobol). It shares nothing with the
 crates, and is slow on purpose."""
 from collections import namedtuple
 from functools import lru_cache
@@ -218,6 +218,49 @@ def inside(plan, points, cuts):
 
 def count_inside(plan, start, count, cuts):
     return inside(plan, run_points(plan, start, count), cuts)
+
+
+# ---- counting by strips, on the Halton families
+
+
+def strips(base, image, cut):
+    """The strips of a cut u / q, each as the modulus and the residue of its indexes: for each digit of the cut the strips with the cut's digits
+    before it and a smaller digit there, and at last the one with all of the cut's digits, if it starts below the cut."""
+    u, q = cut
+    if u == q:
+        return [(1, 0)]
+    found, modulus, residue = [], 1, 0
+    digits = sorted(range(base), key=image.__getitem__)  # by their images
+    for _ in range(depth(base)):
+        own, u = divmod(u * base, q)
+        found += [(modulus * base, residue + modulus * digit) for digit in digits[:own]]
+        modulus, residue = modulus * base, residue + modulus * digits[own]
+    return found + [(modulus, residue)] * (u > 0)
+
+
+@lru_cache(maxsize=65536)
+def inverse(x, modulus):
+    return pow(x, -1, modulus)
+
+
+def common(one, other):
+    """The class of both residues, by the Chinese remainder theorem: the moduli have no common factor."""
+    (m, x), (n, y) = one, other
+    return m * n, x + m * ((y - x) * inverse(m, n) % n)
+
+
+def count_by_strips(plan, start, count, cuts):
+    """The same count over the combinations of a strip of each axis: how many steps below `count` each has. A combination without one is dropped
+    as soon as it is known, since the class of more axes starts no earlier."""
+    classes = [(1, 0)]
+    for base, cut in zip(plan.axes, cuts):
+        steps = [(m, (residue - start) % m) for m, residue in strips(base, images(plan.family, base), cut)]
+        both = (common(known, strip) for known in classes for strip in steps)
+        classes = [(m, first) for m, first in both if first < count]
+    return sum((count - 1 - first) // m + 1 for m, first in classes)
+
+
+# ---- windows as they are handed in
 
 
 def cuts_of(words, axes):

@@ -30,6 +30,8 @@ def part(rng, console):
         yield poke(rng, console, Run, "poke")
     for _ in range(rng.randint(1, 9)):
         yield call(rng, console)
+    if rng.random() < 0.3:
+        yield from both_counts(rng, console)
     if rng.random() < 0.2:
         yield text("state")
 
@@ -55,8 +57,8 @@ def text(*words):
 
 
 def opening(rng):
-    """A short run anywhere, one about the last index, a long one, or one that is too long."""
-    count = rng.choice((rng.randint(0, 9), rng.randint(0, 300), rng.randint(0, 3)))
+    """A short run anywhere, one about the last index, one that is counted by strips, a long one, or one that is too long."""
+    count = rng.choice((rng.randint(0, 9), rng.randint(0, 300), rng.randint(0, 3), rng.randint(8192, 20000)))
     start, long = rng.choice((0, plans.random_index(rng), 2**32 - count)), rng.choice((2**31, 2**32, 2**32 - 5))
     wrong_start, wrong_count = windows.wrong_run(rng)
     run = rng.choice(((count, min(start, 2**32 - count)),) * 6 + ((long, 2**32 - long), (wrong_count, wrong_start)))
@@ -64,7 +66,7 @@ def opening(rng):
 
 
 def call(rng, console):
-    kind = rng.choice((jump, jump, step, step, step, block, second, count, count, write, opening_again, wrong_line, day_call))
+    kind = rng.choice((jump, jump, step, step, step, block, second, count, strips, write, opening_again, wrong_line, day_call))
     return kind(rng, console)
 
 
@@ -105,14 +107,31 @@ def opening_again(rng, console):
 
 
 def count(rng, console):
-    """A window over a run that is short enough for the reference; else one that any state refuses."""
+    return count_line(rng, console, "count", 2**20)
+
+
+def strips(rng, console):
+    return count_line(rng, console, "strips", 2**32)
+
+
+def both_counts(rng, console):
+    """The same window twice: walked, and by strips."""
+    line = count(rng, console)
+    yield line
+    yield line.replace(b"count", b"strips")
+
+
+def count_line(rng, console, name, most):
+    """A window over a run of so many points at most, which the reference counts soon; else one that any state refuses."""
     try:
         run = Run(console.held[Run])
     except Refused:
-        return foreign_count(rng, "count")
-    if run.count > 400:
-        return text("count", *([1, 2] * run.width + [1]))
-    return window_line(rng, "count", windows.random_cuts(rng, run.plan, run.start, run.count))
+        return foreign_count(rng, name)
+    if run.count <= states.LONG:
+        return window_line(rng, name, windows.random_cuts(rng, run.plan, run.start, run.count))
+    if run.count <= most and states.is_long(run.plan, run.count):
+        return window_line(rng, name, windows.strip_cuts(rng, run.plan, run.start, run.count, 3000))
+    return text(name, *([1, 2] * run.width + [1]))
 
 
 def foreign_count(rng, name):
@@ -175,7 +194,11 @@ def day_count(rng, console):
         day_set = DaySet(console.held[DaySet])
     except Refused:
         return foreign_count(rng, "daycount")
-    return window_line(rng, "daycount", windows.random_day_cuts(rng, day_set.plan, day_set.count))
+    if states.is_long(day_set.plan, day_set.count) and rng.random() < 0.5:
+        cuts = [(rng.randint(0, 2**24), 2**24)] + windows.strip_cuts(rng, day_set.plan, 0, day_set.count, 3000)
+    else:
+        cuts = windows.random_day_cuts(rng, day_set.plan, day_set.count)
+    return window_line(rng, "daycount", cuts)
 
 
 def start_pokes(rng, console):

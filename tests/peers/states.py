@@ -8,6 +8,7 @@ import reference
 from reference import INDEXES, SOBOL, Axis, Plan, Refused
 
 WORDS = 215
+LONG = 400  # points
 BLANK = (0,) * WORDS
 RUN = 206  # where start, count and taken are
 
@@ -66,6 +67,11 @@ def genuine_plan(words):
     return plan
 
 
+def is_long(plan, count):
+    """Whether so many points are counted by strips."""
+    return count > LONG and plan.family != SOBOL
+
+
 class Run:
     """The run of a state that accepted calls leave."""
 
@@ -81,7 +87,8 @@ class Run:
 
     def counted(self, cuts):
         """How many points are inside, and the bound."""
-        return reference.count_inside(self.plan, self.start, self.count, cuts), reference.bound(self.plan, self.count)
+        count = reference.count_by_strips if is_long(self.plan, self.count) else reference.count_inside
+        return count(self.plan, self.start, self.count, cuts), reference.bound(self.plan, self.count)
 
     def moved(self, k):
         """The words after so many points more."""
@@ -101,4 +108,10 @@ class DaySet(Run):
         return reference.day_points(self.plan, first, count)
 
     def counted(self, cuts):
-        return reference.day_count_inside(self.plan, self.count, cuts), reference.day_bound(self.plan, self.count)
+        u, q = cuts[0]
+        led = -(-u * self.count // q)
+        if is_long(self.plan, led):
+            inside = reference.count_by_strips(self.plan, 0, led, cuts[1:])
+        else:
+            inside = reference.day_count_inside(self.plan, self.count, cuts)
+        return inside, reference.day_bound(self.plan, self.count)

@@ -6,6 +6,12 @@ class Disagreement(Exception):
     pass
 
 
+def agree(question, ours, theirs):
+    """Compares what the reference has with what it should have."""
+    if ours != theirs:
+        raise Disagreement(f"{question}: the reference has {ours} and not {theirs}")
+
+
 def same_answer(question, ours, peer, theirs):
     """Compares the library's code and buffer with a peer's code and written bytes."""
     code, written = theirs

@@ -1,4 +1,6 @@
 """Random questions to the window count: plan bytes, start, count, window bytes and the room for the answer."""
+from math import prod
+
 import plans
 import reference
 from reference import SOBOL
@@ -41,6 +43,18 @@ def random_day_cuts(rng, plan, size):
         q = rng.choice((rng.randint(1, 2**24), 2**24))
         leading = rng.randint(0, few * q // size), q
     return [leading] + random_cuts(rng, plan, 0, few)
+
+
+def strip_cuts(rng, plan, start, count, most):
+    """Cuts with so many combinations of strips at most: the axes with the most strips get cuts of few digits."""
+    cuts = random_cuts(rng, plan, start, count)
+    while True:
+        numbers = [len(reference.strips(base, reference.images(plan.family, base), cut)) for base, cut in zip(plan.axes, cuts)]
+        if prod(max(number, 1) for number in numbers) <= most:
+            return cuts
+        place = numbers.index(max(numbers))
+        q = plan.axes[place] ** rng.randint(0, 2)
+        cuts[place] = rng.randint(0, q), q
 
 
 def random_cut(rng, base, denominator, x):

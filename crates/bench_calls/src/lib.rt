@@ -1,4 +1,5 @@
 // The calls on a state or a day set in loops, for the benchmark: each function reads its plan once and then makes one call so many times.
+use sampler::Counted;
 use sampler::DaySet;
 use sampler::Sampler;
 ghost use mathlib.Core.Path.{_≡_};
@@ -143,13 +144,24 @@ pub extern "C" fn bench_steps_in_place(plan: &[u8], start: u64, rounds: u64, out
     code
 }
 
-// Counts a window over a run, `rounds` times. Answers S.
+// A count by either call.
+fn counted(s: Sampler, window: &[u64], by_strips: bool) -> Counted
+    ensures { λ r. ⌜ r ≡ countSpec s (now (window .entry)) ⌝ }
+{
+    if by_strips {
+        return sampler::count_by_strips(s, window);
+    }
+    sampler::count(s, window)
+}
+
+// Counts a window over a run, walked or by strips, `rounds` times. Answers S.
 #[no_mangle]
 pub extern "C" fn bench_counts(
     plan: &[u8],
     start: u64,
     count: u64,
     window: &[u64],
+    by_strips: bool,
     rounds: u64,
 ) -> u64
     ensures { λ r. ⌜ r ≡ countsOf (countSpec (openedState (now (plan .entry)) start count) (now (window .entry))) rounds ⌝ }
@@ -158,7 +170,7 @@ pub extern "C" fn bench_counts(
     let mut inside = 0;
     let mut i = 0;
     while i < rounds {
-        let r = sampler::count(s, window);
+        let r = counted(s, window, by_strips);
         inside = r.inside;
         i += 1;
     }

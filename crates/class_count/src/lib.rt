@@ -229,17 +229,17 @@ fn split_class(
         let d = l[256 * s + (e as usize)] as u64;
         let size = class_size(low, more, i);
         let o = t + m * i;
-        if is_cut(from, left, cut, d) {
-            let lo = rest_behind(q, d, from, left);
-            let hi = rest_behind(q, d, cut, rest);
-            let y = (x + r * i) / b;
-            n = n + cut_class(l, rows, s, lo, hi, y, r, turn, o, m * b, size);
-        } else if is_whole(first, cut, d) {
+        if is_whole(first, cut, d) {
             if s == 0 {
                 n = n + size;
             } else {
                 n = n + next_axis(l, rows, s - 1, o, m * b, size);
             }
+        } else if is_cut(from, left, cut, d) {
+            let lo = rest_behind(q, d, from, left);
+            let hi = rest_behind(q, d, cut, rest);
+            let y = (x + r * i) / b;
+            n = n + cut_class(l, rows, s, lo, hi, y, r, turn, o, m * b, size);
         }
         e = next_digit(e, turn, b);
         i += 1;

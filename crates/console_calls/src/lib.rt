@@ -104,6 +104,15 @@ pub fn count(c: Console, out: &mut [u8], window: &[u64]) -> Console
     console_text::with_lines(c, lines)
 }
 
+// The same by strips.
+pub fn strips(c: Console, out: &mut [u8], window: &[u64]) -> Console
+    ensures { λ r. ⌜ Holds r (c .state) (c .day) ⌝ }
+{
+    let s = sampler::count_by_strips(c.state, window);
+    let lines = console_text::answer(c.lines, out, b"strips", &[s.code, s.inside, s.bound], &[]);
+    console_text::with_lines(c, lines)
+}
+
 // ---- the state itself
 
 // Every word of a state, the console's own or its day set's; both stay.

@@ -1,5 +1,6 @@
 // The console over standard input and output: each line by its first word, and an answer for each. Each group of lines passes a first word
 // that it does not know on to the next.
+use console_lines::Counting;
 use console_lines::Held;
 use console_lines::Lent;
 use console_text::Console;
@@ -22,7 +23,7 @@ fn day_state_line(c: Console, out: &mut [u8], key: &[u8], rest: &[u8]) -> Consol
     console_text::error(
         c,
         out,
-        b"read, write, open, jump, second, step, place, block, count, state, poke, blank, day, dayjump, daystep, dayblock, daycount, daystate, daypoke, dayblank or # as the first word",
+        b"read, write, open, jump, second, step, place, block, count, strips, state, poke, blank, day, dayjump, daystep, dayblock, daycount, daystate, daypoke, dayblank or # as the first word",
     )
 }
 
@@ -41,7 +42,7 @@ fn day_line(c: Console, out: &mut [u8], key: &[u8], rest: &[u8]) -> Console {
         return console_lines::room(c, out, Lent::DayBlock, b"dayblock ROOM", rest);
     }
     if check::same(key, b"daycount") {
-        return console_lines::count(c, out, Held::DaySet, b"daycount U Q U Q ..", rest);
+        return console_lines::count(c, out, Counting::DaySet, b"daycount U Q U Q ..", rest);
     }
     day_state_line(c, out, key, rest)
 }
@@ -72,7 +73,10 @@ fn run_line(c: Console, out: &mut [u8], key: &[u8], rest: &[u8]) -> Console {
         return console_lines::room(c, out, Lent::Block, b"block ROOM", rest);
     }
     if check::same(key, b"count") {
-        return console_lines::count(c, out, Held::State, b"count U Q U Q ..", rest);
+        return console_lines::count(c, out, Counting::Walked, b"count U Q U Q ..", rest);
+    }
+    if check::same(key, b"strips") {
+        return console_lines::count(c, out, Counting::ByStrips, b"strips U Q U Q ..", rest);
     }
     state_line(c, out, key, rest)
 }

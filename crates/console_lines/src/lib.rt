@@ -3,6 +3,7 @@ mod plain_lines;
 mod plan_lines;
 mod room_lines;
 
+pub use plain_lines::Counting;
 pub use plain_lines::blank;
 pub use plain_lines::count;
 pub use plain_lines::day;

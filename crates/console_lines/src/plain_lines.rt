@@ -23,11 +23,18 @@ pub fn day(c: Console, out: &mut [u8], rest: &[u8]) -> Console {
     console_day::make(c, out, n[0])
 }
 
-// The window of a line's words.
+// A count: of the console's run, walked or by strips, or of its day set.
+pub enum Counting {
+    Walked,
+    ByStrips,
+    DaySet,
+}
+
+// Counts the window of a line's words.
 fn window(
     c: Console,
     out: &mut [u8],
-    of: Held,
+    which: Counting,
     form: &[u8],
     rest: &[u8],
     n: &mut [u64],
@@ -36,20 +43,23 @@ fn window(
     let Numbers::Read = r else {
         return console_text::misread(c, out, form, r);
     };
-    if let Held::DaySet = of {
+    if let Counting::DaySet = which {
         return console_day::count(c, out, n);
+    }
+    if let Counting::ByStrips = which {
+        return console_calls::strips(c, out, n);
     }
     console_calls::count(c, out, n)
 }
 
-// `count U Q U Q ..`, `daycount U Q U Q ..`: a window of any words. A line has less than 512.
-pub fn count(c: Console, out: &mut [u8], of: Held, form: &[u8], rest: &[u8]) -> Console {
+// `count U Q U Q ..`, `strips U Q U Q ..`, `daycount U Q U Q ..`: a window of any words. A line has less than 512.
+pub fn count(c: Console, out: &mut [u8], which: Counting, form: &[u8], rest: &[u8]) -> Console {
     let k = words::count(rest, 0);
     if 512 < k {
         return console_text::error(c, out, b"at most 512 numbers");
     }
     let mut n = [0u64; 512];
-    window(c, out, of, form, rest, &mut n[..k])
+    window(c, out, which, form, rest, &mut n[..k])
 }
 
 // `state`, `daystate`.

@@ -1,5 +1,6 @@
 // Runs the edges and the traps of 01-scope.md through the calls, one line each: what was asked, and the number that came.
 use libc::STDOUT_FILENO;
+use sampler::Counted;
 use sampler::DaySet;
 use sampler::Sampler;
 
@@ -65,13 +66,17 @@ fn second_index() {
     report(b"its numerator", point[0]);
 }
 
-// What counting a window over a run answers: the refusal's number or 0, S, and the bound.
-fn counting(label: &[u8], s: Sampler, start: u64, count: u64, w: &[u64]) {
-    let a = sampler::open(s, start, count);
-    let r = sampler::count(a.state, w);
+// What a count answers: the refusal's number or 0, S, and the bound.
+fn report_count(label: &[u8], r: Counted) {
     report(label, r.code);
     report(b"  inside", r.inside);
     report(b"  bound", r.bound);
+}
+
+// What counting a window over a run answers.
+fn counting(label: &[u8], s: Sampler, start: u64, count: u64, w: &[u64]) {
+    let a = sampler::open(s, start, count);
+    report_count(label, sampler::count(a.state, w));
 }
 
 // Windows over the bases 2 and 3: R8, and whole and empty cuts.
@@ -131,6 +136,15 @@ fn small_runs(s: Sampler) {
     );
 }
 
+// The run of all indexes, which a walk would take seconds for.
+fn whole_run(s: Sampler) {
+    let a = sampler::open(s, 0, 4294967296);
+    report_count(
+        b"count by strips 1/2 1/3 over start 0 count 4294967296",
+        sampler::count_by_strips(a.state, &[1, 2, 1, 3]),
+    );
+}
+
 // Windows that are turned down.
 fn wrong_windows(s: Sampler) {
     counting(b"count 3/2 1/3", s, 0, 6, &[3, 2, 1, 3]);
@@ -187,9 +201,7 @@ fn empty_day_set(s: Sampler) {
     let b = sampler::day_jump(m.set, 0, &mut point);
     report(b"jump to its point 0", b.code);
     let c = sampler::day_count(m.set, &[1, 1, 1, 1, 1, 1]);
-    report(b"count 1/1 1/1 1/1 over it", c.code);
-    report(b"  inside", c.inside);
-    report(b"  bound", c.bound);
+    report_count(b"count 1/1 1/1 1/1 over it", c);
 }
 
 // A sampler whose run starts elsewhere is no day set, and the blank state makes none.
@@ -210,6 +222,7 @@ fn main() {
     second_index();
     windows(r.state);
     small_runs(r.state);
+    whole_run(r.state);
     wrong_windows(r.state);
     seconds();
     blank_state();

@@ -40,7 +40,7 @@ fn counted(s: Sampler, is_day: bool, w: &[u64]) -> Counted
     if is_day {
         return sampler::day_count(DaySet { run: s }, w);
     }
-    sampler::count(s, w)
+    sampler::count_by_strips(s, w)
 }
 
 // Counts a window, and prints its row.

@@ -11,10 +11,10 @@ use Rattle.bench_calls.proofs.bench_counts.Statement.{statement}
 use Rattle.bench_calls.proofs.bench_counts.Tie as tie
 
 abbrev Inv-loop : tie.InvT-loop
-Inv-loop plan start count window rounds s inside₀ i₀ inside i = (i ≤ rounds) × (inside ≡ countsOf (countSpec s window) i)
+Inv-loop plan start count window by_strips rounds s inside₀ i₀ inside i = (i ≤ rounds) × (inside ≡ countsOf (countSpec s window) i)
 
 abbrev μ-loop : tie.MeasureT-loop
-μ-loop plan start count window rounds s inside₀ i₀ inside i = rounds - i
+μ-loop plan start count window by_strips rounds s inside₀ i₀ inside i = rounds - i
 
 opened-requires : tie.Need-opened-requires Inv-loop μ-loop
 opened-requires c κs = search needs
@@ -23,8 +23,8 @@ loop-holds : tie.Need-loop-holds Inv-loop μ-loop
 unfolding countsOf
 loop-holds c = (omega arith, refl)
 
-count-requires : tie.Need-count-requires Inv-loop μ-loop
-count-requires c κs = search needs
+counted-requires : tie.Need-counted-requires Inv-loop μ-loop
+counted-requires c κs = search needs
 
 add-i : tie.Need-add-i Inv-loop μ-loop
 add-i c = search needs
@@ -34,7 +34,7 @@ loop-less c = search needs
 
 loop-again : tie.Need-loop-again Inv-loop μ-loop
 unfolding countsOf
-loop-again c = (omega arith, rw add-one (ap (λ (r : Counted). r .inside) (c .count .ensures)))
+loop-again c = (omega arith, rw add-one (ap (λ (r : Counted). r .inside) (c .counted .ensures)))
 
 returns : tie.Need-returns Inv-loop μ-loop
 returns c =
@@ -50,7 +50,7 @@ bench-counts-spec =
     μ-loop
     opened-requires
     loop-holds
-    count-requires
+    counted-requires
     add-i
     loop-less
     loop-again

@@ -86,7 +86,7 @@ abbrev cut-calls : ℕ → cut-class-lts.Claims
 cut-calls t = (one-step-reads.Asked, one-step-reads.Learnt, split-class-below t, split-class.Post)
 
 abbrev split-calls : ℕ → split-class-lts.Claims
-split-calls t = (lower-digit-reads.Asked, lower-digit-reads.Learnt, lower-rest-reads.Asked, lower-rest-reads.Learnt, first-whole-reads.Asked, first-whole-reads.Learnt, class-number-reads.Asked, class-number-reads.Learnt, class-size-reads.Asked, class-size-reads.Learnt, is-cut-reads.Asked, is-cut-reads.Learnt, rest-behind-reads.Asked, rest-behind-reads.Learnt, cut-class-below t, cut-class.Post, is-whole-reads.Asked, is-whole-reads.Learnt, next-axis-below t, next-axis.Post, next-digit-reads.Asked, next-digit-reads.Learnt)
+split-calls t = (lower-digit-reads.Asked, lower-digit-reads.Learnt, lower-rest-reads.Asked, lower-rest-reads.Learnt, first-whole-reads.Asked, first-whole-reads.Learnt, class-number-reads.Asked, class-number-reads.Learnt, class-size-reads.Asked, class-size-reads.Learnt, is-whole-reads.Asked, is-whole-reads.Learnt, next-axis-below t, next-axis.Post, is-cut-reads.Asked, is-cut-reads.Learnt, rest-behind-reads.Asked, rest-behind-reads.Learnt, cut-class-below t, cut-class.Post, next-digit-reads.Asked, next-digit-reads.Learnt)
 
 abbrev axis-calls : ℕ → next-axis-lts.Claims
 axis-calls t = (inside-step-reads.Asked, inside-step-reads.Learnt, is-uncut-reads.Asked, is-uncut-reads.Learnt, count-class-below t, count-class.Post, cut-class-below t, cut-class.Post)
@@ -378,14 +378,14 @@ lower t c = (c .before .before .before .before .before .lower-digit .ensures, c 
 -- the rests of a turn are no more than q
 rests : (t : ℕ) (c : split-class-lts.After-rest-behind2 (split-calls t) (split-class-at t) split-class.Post Inv-loop μ-loop) → (c .before .rest-behind .result ≤ 2 ^ 24) × (c .rest-behind2 .result ≤ 2 ^ 24)
 rests t c =
-    let s = c .before .before .before .before .before .before .before .before .before .before .before .before .before .before .before .before in
+    let s = c .before .before .before .before .before .before .before .before .before .before .before .before .before .before .before .before .before .before in
     let a = s .args in
     let e = axis t s in
     let b = baseIn (a .rows .now) (a .s) in
     let q = qIn (a .rows .now) (a .s) in
     let f = mod-lt (a .v * b) {m = q} (e .3) in
     let g = mod-lt (a .u * b) {m = q} (e .3) in
-    (omega (arith, c .before .rest-behind .ensures .1 (omega (arith, lower t (c .before .before .before .before .before .before) .1)), e .4), omega (arith, c .rest-behind2 .ensures .1 (omega arith), e .4))
+    (omega (arith, c .before .rest-behind .ensures .1 (omega (arith, lower t (c .before .before .before .before .before .before .before .before) .1)), e .4), omega (arith, c .rest-behind2 .ensures .1 (omega arith), e .4))
 
 -- one class more
 abbrev Next : (t : ℕ) (c : split-class-lts.In-loop (split-calls t) (split-class-at t) split-class.Post Inv-loop μ-loop) → ℕ → Type 0
@@ -395,64 +395,62 @@ Next t c n =
     let l = c .before .loop in
     Split (a .l .now) (a .rows .now) (a .s) (a .v) (a .u) (a .x) (a .r) (a .t) (a .m) (a .k) ((l .e + a .r % b) % b) n (l .i + 1)
 
-after-cut : (t : ℕ) (c : split-class-lts.After-cut-class (split-calls t) (split-class-at t) split-class.Post Inv-loop μ-loop) → Next t (c .before .before .before .before .before .before .before) (c .before .before .before .before .before .before .before .before .loop .n + c .cut-class .result)
-unfolding imageFrom
-after-cut t c =
-    let i = c .before .before .before .before .before .before .before in
-    let s = c .before .before .before .before .before .before .before .before .before .before .before .before .before .before .before .before .before in
-    split-behind (i .before .loop .inv .0) (turn t i .0) (s .pre .1 .0) (s .pre .1 .3) refl (size t (c .before .before .before .before .before))
-    (rw (← lower t i .0, ← lower t i .1) (c .before .before .rest-behind .ensures .0)) (c .before .rest-behind2 .ensures .0) (c .cut-class .ensures)
-
 -- a whole class, whose steps inside are y
-whole : (t : ℕ) (c : split-class-lts.Then2 (split-calls t) (split-class-at t) split-class.Post Inv-loop μ-loop) (y : ℕ) →
-    let a = c .before .before .before .before .before .before .before .before .before .before .before .before .before .before .before .before .args in
-    let i = c .before .before .before .before .before .before .before .loop .i in
-    y ≡ count (insideAlong (tableAxes (a .l .now) (a .rows .now)) (a .s) (a .t + a .m * i) (a .m * baseIn (a .rows .now) (a .s))) (c .before .before .before .before .class-size .result)
-    → Next t (c .before .before .before .before .before .before) (c .before .before .before .before .before .before .before .loop .n + y)
+whole : (t : ℕ) (c : split-class-lts.Then1 (split-calls t) (split-class-at t) split-class.Post Inv-loop μ-loop) (y : ℕ) →
+    let a = c .before .before .before .before .before .before .before .before .before .before .before .before .before .before .args in
+    let i = c .before .before .before .before .before .loop .i in
+    y ≡ count (insideAlong (tableAxes (a .l .now) (a .rows .now)) (a .s) (a .t + a .m * i) (a .m * baseIn (a .rows .now) (a .s))) (c .before .before .class-size .result)
+    → Next t (c .before .before .before .before) (c .before .before .before .before .before .loop .n + y)
 unfolding imageFrom
 whole t c y made =
-    let i = c .before .before .before .before .before .before in
-    let s = c .before .before .before .before .before .before .before .before .before .before .before .before .before .before .before .before in
-    let e = c .before .is-whole .ensures .0 (c .if2 .taken) in
-    split-inside (i .before .loop .inv .0) (turn t i .0) (s .pre .1 .0) (s .pre .1 .3) refl (size t (c .before .before .before .before))
+    let i = c .before .before .before .before in
+    let s = c .before .before .before .before .before .before .before .before .before .before .before .before .before .before in
+    let e = c .before .is-whole .ensures .0 (c .if1 .taken) in
+    split-inside (i .before .loop .inv .0) (turn t i .0) (s .pre .1 .0) (s .pre .1 .3) refl (size t (c .before .before))
     (rw (← lower t i .0, ← lower t i .1) (omega (arith, e .0, i .before .before .before .first-whole .ensures))) (e .1) made
 
-after-last : (t : ℕ) (c : split-class-lts.Then3 (split-calls t) (split-class-at t) split-class.Post Inv-loop μ-loop) → Next t (c .before .before .before .before .before .before .before) (c .before .before .before .before .before .before .before .before .loop .n + c .before .before .before .before .before .class-size .result)
+after-last : (t : ℕ) (c : split-class-lts.Then2 (split-calls t) (split-class-at t) split-class.Post Inv-loop μ-loop) → Next t (c .before .before .before .before .before) (c .before .before .before .before .before .before .loop .n + c .before .before .before .class-size .result)
 after-last t c =
-    let a = c .before .before .before .before .before .before .before .before .before .before .before .before .before .before .before .before .before .args in
-    let i = c .before .before .before .before .before .before .before .before .loop .i in
-    whole t (c .before) (c .before .before .before .before .before .class-size .result)
-    (axes-last (a .l .now) (a .rows .now) (a .t + a .m * i) (a .m * baseIn (a .rows .now) (a .s)) (c .before .before .before .before .before .class-size .result) (c .if3 .taken))
+    let a = c .before .before .before .before .before .before .before .before .before .before .before .before .before .before .before .args in
+    let i = c .before .before .before .before .before .before .loop .i in
+    whole t (c .before) (c .before .before .before .class-size .result)
+    (axes-last (a .l .now) (a .rows .now) (a .t + a .m * i) (a .m * baseIn (a .rows .now) (a .s)) (c .before .before .before .class-size .result) (c .if2 .taken))
 
-after-next : (t : ℕ) (c : split-class-lts.After-next-axis (split-calls t) (split-class-at t) split-class.Post Inv-loop μ-loop) → Next t (c .before .before .before .before .before .before .before .before) (c .before .before .before .before .before .before .before .before .before .loop .n + c .next-axis .result)
+after-next : (t : ℕ) (c : split-class-lts.After-next-axis (split-calls t) (split-class-at t) split-class.Post Inv-loop μ-loop) → Next t (c .before .before .before .before .before .before) (c .before .before .before .before .before .before .before .loop .n + c .next-axis .result)
 after-next t c =
-    let a = c .before .before .before .before .before .before .before .before .before .before .before .before .before .before .before .before .before .before .args in
-    let i = c .before .before .before .before .before .before .before .before .before .loop .i in
+    let a = c .before .before .before .before .before .before .before .before .before .before .before .before .before .before .before .before .args in
+    let i = c .before .before .before .before .before .before .before .loop .i in
     whole t (c .before .before) (c .next-axis .result)
-    (c .next-axis .ensures ∙ axes-same (a .l .now) (a .rows .now) (a .t + a .m * i) (a .m * baseIn (a .rows .now) (a .s)) (c .before .before .before .before .before .before .class-size .result) (omega (arith, c .before .if3 .left)))
+    (c .next-axis .ensures ∙ axes-same (a .l .now) (a .rows .now) (a .t + a .m * i) (a .m * baseIn (a .rows .now) (a .s)) (c .before .before .before .before .class-size .result) (omega (arith, c .before .if2 .left)))
 
-after-outside : (t : ℕ) (c : split-class-lts.Else2 (split-calls t) (split-class-at t) split-class.Post Inv-loop μ-loop) → Next t (c .before .before .before .before .before .before) (c .before .before .before .before .before .before .before .loop .n)
+after-cut : (t : ℕ) (c : split-class-lts.After-cut-class (split-calls t) (split-class-at t) split-class.Post Inv-loop μ-loop) → Next t (c .before .before .before .before .before .before .before .before .before) (c .before .before .before .before .before .before .before .before .before .before .loop .n + c .cut-class .result)
+unfolding imageFrom
+after-cut t c =
+    let i = c .before .before .before .before .before .before .before .before .before in
+    let s = c .before .before .before .before .before .before .before .before .before .before .before .before .before .before .before .before .before .before .before in
+    split-behind (i .before .loop .inv .0) (turn t i .0) (s .pre .1 .0) (s .pre .1 .3) refl (size t (c .before .before .before .before .before .before .before))
+    (rw (← lower t i .0, ← lower t i .1) (c .before .before .rest-behind .ensures .0)) (c .before .rest-behind2 .ensures .0) (c .cut-class .ensures)
+
+after-outside : (t : ℕ) (c : split-class-lts.Else3 (split-calls t) (split-class-at t) split-class.Post Inv-loop μ-loop) → Next t (c .before .before .before .before .before .before) (c .before .before .before .before .before .before .before .loop .n)
 unfolding imageFrom
 after-outside t c =
     let i = c .before .before .before .before .before .before in
     let s = c .before .before .before .before .before .before .before .before .before .before .before .before .before .before .before .before in
-    let e = c .before .before .before .is-cut .ensures (c .before .before .if1 .left) in
+    let e = c .before .is-cut .ensures (c .if3 .left) in
     split-outside (i .before .loop .inv .0) (turn t i .0) (s .pre .1 .0) (s .pre .1 .3) refl (size t (c .before .before .before .before)) (e .0) (rw (← lower t i .0, ← lower t i .1) (e .1))
-    (λ h. c .before .is-whole .ensures .1 (c .if2 .left) (omega (arith, rw (← lower t i .0, ← lower t i .1) at h, i .before .before .before .first-whole .ensures)))
+    (λ h. c .before .before .before .is-whole .ensures .1 (c .before .before .if1 .left) (omega (arith, rw (← lower t i .0, ← lower t i .1) at h, i .before .before .before .first-whole .ensures)))
 
 -- whichever way the arms were left
 met : (t : ℕ) (c : split-class-lts.Joined1 (split-calls t) (split-class-at t) split-class.Post Inv-loop μ-loop) → Next t (c .before .before .before .before) (c .if1 .n)
 met t c =
     ⊎-elim
-    (λ w. rw (w .4)
-    (after-cut t (record { before = record { before = record { before = record { before = c .before; if1 = w .0 }; rest-behind = w .1 }; rest-behind2 = w .2 }; cut-class = w .3 })))
+    (λ w. rw (w .2) (after-last t (record { before = record { before = c .before; if1 = w .0 }; if2 = w .1 })))
     (⊎-elim
-    (λ w. rw (w .4)
-    (after-last t (record { before = record { before = record { before = record { before = c .before; if1 = w .0 }; is-whole = w .1 }; if2 = w .2 }; if3 = w .3 })))
+    (λ w. rw (w .3) (after-next t (record { before = record { before = record { before = c .before; if1 = w .0 }; if2 = w .1 }; next-axis = w .2 })))
     (⊎-elim
-    (λ w. rw (w .5)
-    (after-next t (record { before = record { before = record { before = record { before = record { before = c .before; if1 = w .0 }; is-whole = w .1 }; if2 = w .2 }; if3 = w .3 }; next-axis = w .4 })))
-    (λ w. rw (w .3) (after-outside t (record { before = record { before = record { before = c .before; if1 = w .0 }; is-whole = w .1 }; if2 = w .2 })))))
+    (λ w. rw (w .6)
+    (after-cut t (record { before = record { before = record { before = record { before = record { before = record { before = c .before; if1 = w .0 }; is-cut = w .1 }; if3 = w .2 }; rest-behind = w .3 }; rest-behind2 = w .4 }; cut-class = w .5 })))
+    (λ w. rw (w .3) (after-outside t (record { before = record { before = record { before = c .before; if1 = w .0 }; is-cut = w .1 }; if3 = w .2 })))))
     (c .if1 .came)
 
 split-class-mul-d : (t : ℕ) → split-class-lts.Need-mul-d (split-calls t) (split-class-at t) split-class.Post Inv-loop μ-loop
@@ -478,6 +476,27 @@ split-class-mul-o t c = omega (arith, low t (c .before .before))
 split-class-add-o : (t : ℕ) → split-class-lts.Need-add-o (split-calls t) (split-class-at t) split-class.Post Inv-loop μ-loop
 split-class-add-o t c = omega (arith, low t (c .before .before))
 
+split-class-is-whole-requires : (t : ℕ) → split-class-lts.Need-is-whole-requires (split-calls t) (split-class-at t) split-class.Post Inv-loop μ-loop
+split-class-is-whole-requires t c κs = search needs
+
+split-class-add-n : (t : ℕ) → split-class-lts.Need-add-n (split-calls t) (split-class-at t) split-class.Post Inv-loop μ-loop
+split-class-add-n t c = omega (arith, split-le (after-last t c), c .before .before .before .before .before .before .before .before .before .before .before .before .before .before .before .pre .1 .5 .few)
+
+split-class-sub-next-axis : (t : ℕ) → split-class-lts.Need-sub-next-axis (split-calls t) (split-class-at t) split-class.Post Inv-loop μ-loop
+split-class-sub-next-axis t c = omega (arith, c .if2 .left)
+
+split-class-mul-next-axis : (t : ℕ) → split-class-lts.Need-mul-next-axis (split-calls t) (split-class-at t) split-class.Post Inv-loop μ-loop
+split-class-mul-next-axis t c = omega (arith, low t (c .before .before .before .before .before))
+
+split-class-next-axis-requires : (t : ℕ) → split-class-lts.Need-next-axis-requires (split-calls t) (split-class-at t) split-class.Post Inv-loop μ-loop
+split-class-next-axis-requires t c κs = let s = c .before .before .before .before .before .before .before .before .before .before .before .before .before .before .before in
+    let z = c .before .before .before in
+    let h : s .args .s - 1 + 1 ≤ s .args .s = omega (arith, c .if2 .left) in
+    (omega (arith, s .pre .0, smaller t z), (held-less (s .pre .1 .0) (s .args .s - 1 + 1) (omega arith), steps-less (steps-split (turn t (c .before .before .before .before .before) .0) (size t z) (s .pre .1 .5)) (s .args .s - 1 + 1) h))
+
+split-class-add-n-2 : (t : ℕ) → split-class-lts.Need-add-n-2 (split-calls t) (split-class-at t) split-class.Post Inv-loop μ-loop
+split-class-add-n-2 t c = omega (arith, split-le (after-next t c), c .before .before .before .before .before .before .before .before .before .before .before .before .before .before .before .before .pre .1 .5 .few)
+
 split-class-is-cut-requires : (t : ℕ) → split-class-lts.Need-is-cut-requires (split-calls t) (split-class-at t) split-class.Post Inv-loop μ-loop
 split-class-is-cut-requires t c κs = search needs
 
@@ -488,21 +507,21 @@ split-class-rest-behind-requires-2 : (t : ℕ) → split-class-lts.Need-rest-beh
 split-class-rest-behind-requires-2 t c κs = search needs
 
 split-class-mul-y : (t : ℕ) → split-class-lts.Need-mul-y (split-calls t) (split-class-at t) split-class.Post Inv-loop μ-loop
-split-class-mul-y t c = omega (arith, low t (c .before .before .before .before .before .before))
+split-class-mul-y t c = omega (arith, low t (c .before .before .before .before .before .before .before .before))
 
 split-class-add-y : (t : ℕ) → split-class-lts.Need-add-y (split-calls t) (split-class-at t) split-class.Post Inv-loop μ-loop
-split-class-add-y t c = omega (arith, low t (c .before .before .before .before .before .before))
+split-class-add-y t c = omega (arith, low t (c .before .before .before .before .before .before .before .before))
 
 split-class-div-y : (t : ℕ) → split-class-lts.Need-div-y (split-calls t) (split-class-at t) split-class.Post Inv-loop μ-loop
-split-class-div-y t c = omega (arith, axis t (c .before .before .before .before .before .before .before .before .before .before .before .before .before .before .before .before))
+split-class-div-y t c = omega (arith, axis t (c .before .before .before .before .before .before .before .before .before .before .before .before .before .before .before .before .before .before))
 
 split-class-mul-cut-class : (t : ℕ) → split-class-lts.Need-mul-cut-class (split-calls t) (split-class-at t) split-class.Post Inv-loop μ-loop
-split-class-mul-cut-class t c = omega (arith, low t (c .before .before .before .before .before .before))
+split-class-mul-cut-class t c = omega (arith, low t (c .before .before .before .before .before .before .before .before))
 
 split-class-cut-class-requires : (t : ℕ) → split-class-lts.Need-cut-class-requires (split-calls t) (split-class-at t) split-class.Post Inv-loop μ-loop
-split-class-cut-class-requires t c κs = let s = c .before .before .before .before .before .before .before .before .before .before .before .before .before .before .before .before in
-    let z = c .before .before .before .before in
-    let i = c .before .before .before .before .before .before in (
+split-class-cut-class-requires t c κs = let s = c .before .before .before .before .before .before .before .before .before .before .before .before .before .before .before .before .before .before in
+    let z = c .before .before .before .before .before .before in
+    let i = c .before .before .before .before .before .before .before .before in (
       omega (arith, s .pre .0, smaller t z),
       (
         s .pre .1 .0,
@@ -514,29 +533,8 @@ split-class-cut-class-requires t c κs = let s = c .before .before .before .befo
       ),
     )
 
-split-class-add-n : (t : ℕ) → split-class-lts.Need-add-n (split-calls t) (split-class-at t) split-class.Post Inv-loop μ-loop
-split-class-add-n t c = omega (arith, split-le (after-cut t c), c .before .before .before .before .before .before .before .before .before .before .before .before .before .before .before .before .before .pre .1 .5 .few)
-
-split-class-is-whole-requires : (t : ℕ) → split-class-lts.Need-is-whole-requires (split-calls t) (split-class-at t) split-class.Post Inv-loop μ-loop
-split-class-is-whole-requires t c κs = search needs
-
-split-class-add-n-2 : (t : ℕ) → split-class-lts.Need-add-n-2 (split-calls t) (split-class-at t) split-class.Post Inv-loop μ-loop
-split-class-add-n-2 t c = omega (arith, split-le (after-last t c), c .before .before .before .before .before .before .before .before .before .before .before .before .before .before .before .before .before .pre .1 .5 .few)
-
-split-class-sub-next-axis : (t : ℕ) → split-class-lts.Need-sub-next-axis (split-calls t) (split-class-at t) split-class.Post Inv-loop μ-loop
-split-class-sub-next-axis t c = omega (arith, c .if3 .left)
-
-split-class-mul-next-axis : (t : ℕ) → split-class-lts.Need-mul-next-axis (split-calls t) (split-class-at t) split-class.Post Inv-loop μ-loop
-split-class-mul-next-axis t c = omega (arith, low t (c .before .before .before .before .before .before .before))
-
-split-class-next-axis-requires : (t : ℕ) → split-class-lts.Need-next-axis-requires (split-calls t) (split-class-at t) split-class.Post Inv-loop μ-loop
-split-class-next-axis-requires t c κs = let s = c .before .before .before .before .before .before .before .before .before .before .before .before .before .before .before .before .before in
-    let z = c .before .before .before .before .before in
-    let h : s .args .s - 1 + 1 ≤ s .args .s = omega (arith, c .if3 .left) in
-    (omega (arith, s .pre .0, smaller t z), (held-less (s .pre .1 .0) (s .args .s - 1 + 1) (omega arith), steps-less (steps-split (turn t (c .before .before .before .before .before .before .before) .0) (size t z) (s .pre .1 .5)) (s .args .s - 1 + 1) h))
-
 split-class-add-n-3 : (t : ℕ) → split-class-lts.Need-add-n-3 (split-calls t) (split-class-at t) split-class.Post Inv-loop μ-loop
-split-class-add-n-3 t c = omega (arith, split-le (after-next t c), c .before .before .before .before .before .before .before .before .before .before .before .before .before .before .before .before .before .before .pre .1 .5 .few)
+split-class-add-n-3 t c = omega (arith, split-le (after-cut t c), c .before .before .before .before .before .before .before .before .before .before .before .before .before .before .before .before .before .before .before .pre .1 .5 .few)
 
 split-class-next-digit-requires : (t : ℕ) → split-class-lts.Need-next-digit-requires (split-calls t) (split-class-at t) split-class.Post Inv-loop μ-loop
 split-class-next-digit-requires t c κs = let q = axis t (c .before .before .before .before .before .before .before .before .before .before .before .before .before .before) in
@@ -656,6 +654,12 @@ pub +count-class+cut-class+next-axis+split-class-spec : {M : Type 1} → stateme
     (split-class-class-size-requires t)
     (split-class-mul-o t)
     (split-class-add-o t)
+    (split-class-is-whole-requires t)
+    (split-class-add-n t)
+    (split-class-sub-next-axis t)
+    (split-class-mul-next-axis t)
+    (split-class-next-axis-requires t)
+    (split-class-add-n-2 t)
     (split-class-is-cut-requires t)
     (split-class-rest-behind-requires t)
     (split-class-rest-behind-requires-2 t)
@@ -664,12 +668,6 @@ pub +count-class+cut-class+next-axis+split-class-spec : {M : Type 1} → stateme
     (split-class-div-y t)
     (split-class-mul-cut-class t)
     (split-class-cut-class-requires t)
-    (split-class-add-n t)
-    (split-class-is-whole-requires t)
-    (split-class-add-n-2 t)
-    (split-class-sub-next-axis t)
-    (split-class-mul-next-axis t)
-    (split-class-next-axis-requires t)
     (split-class-add-n-3 t)
     (split-class-next-digit-requires t)
     (split-class-add-i t)

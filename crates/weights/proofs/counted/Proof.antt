@@ -10,11 +10,11 @@ day-count-requires c κs = search needs
 returns : tie.Need-returns
 returns c z = set-answered _ _ _ (c .day-count .ensures) z
 
-count-requires : tie.Need-count-requires
-count-requires c κs = search needs
+count-by-strips-requires : tie.Need-count-by-strips-requires
+count-by-strips-requires c κs = search needs
 
 returns-2 : tie.Need-returns-2
-returns-2 c z = run-answered _ _ _ (c .count .ensures) z
+returns-2 c z = run-answered _ _ _ (c .count-by-strips .ensures) z
 
 pub counted-spec : {M : Type 1} → statement M
-counted-spec = tie.close (tie.spec day-count-requires returns count-requires returns-2)
+counted-spec = tie.close (tie.spec day-count-requires returns count-by-strips-requires returns-2)
