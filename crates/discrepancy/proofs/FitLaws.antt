@@ -34,15 +34,14 @@ factor-le b N l h n = le-trans (factor-mono b l n) (leb-true _ _ (rw again at (e
     again : b - 2 + 2 ≡ b
     again = omega arith
 
--- a product of numbers up to such a factor
-product-le : (f : ℕ → ℕ) (s : ℕ) → ((i : ℕ) → i < s → f i ≤ 1276) → productTo f s ≤ 1276 ^ s
-unfolding productTo
-product-le f zero h = lit≤ tt
-product-le f (suc s) h = rw pow-suc (mul-le-mul (product-le f s (λ i l. h i (omega arith))) (h s (le-refl (suc s))))
+module _ (N : ℕ) (b : ℕ → ℕ) (n : N ≤ 2 ^ 32) where
+  bound-le : (s : ℕ) → ((i : ℕ) → i < s → (2 ≤ b i) × (b i ≤ 256)) → bound b s N ≤ 1276 ^ s
+  unfolding productTo
+  bound-le zero h = lit≤ tt
+  bound-le (suc s) h =
+      let base = h s (le-refl (suc s)) in
+      rw pow-suc (mul-le-mul (bound-le s (λ i l. h i (omega arith))) (factor-le (b s) N (base .0) (base .1) n))
 
--- that of six is a word, and so is one more
-pub product-fits : (f : ℕ → ℕ) (s : ℕ) → s ≤ 6 → ((i : ℕ) → i < s → f i ≤ 1276) → productTo f s < 2 ^ 63
-product-fits f s l h = lt-of-le-of-lt (le-trans (product-le f s h) (pow-le-pow-right (lit< tt) l)) (lit< tt)
-
-pub bound-fits : (N : ℕ) (b : ℕ → ℕ) → N ≤ 2 ^ 32 → (s : ℕ) → s ≤ 6 → ((i : ℕ) → i < s → (2 ≤ b i) × (b i ≤ 256)) → bound b s N < 2 ^ 63
-bound-fits N b n s l h = product-fits (factorAt b N) s l (λ i k. factor-le (b i) N (h i k .0) (h i k .1) n)
+  -- the bound of six axes is a word, and so is one more
+  pub bound-fits : (s : ℕ) → s ≤ 6 → ((i : ℕ) → i < s → (2 ≤ b i) × (b i ≤ 256)) → bound b s N < 2 ^ 63
+  bound-fits s l h = lt-of-le-of-lt (le-trans (bound-le s h) (pow-le-pow-right (lit< tt) l)) (lit< tt)

@@ -39,19 +39,22 @@ module _ (rows : List ℕ) (i b n u q : ℕ) (room : 5 * i + 4 < length rows) wh
   pub row-put : RowPut i b n u q rows (set (set (set (set (set rows (5 * i) b) (5 * i + 1) n) (5 * i + 2) 0) (5 * i + 3) u) (5 * i + 4) q)
   row-put =
       record {
+        row =
+            record {
+              base =
+                  from-four (5 * i) (omega arith) ∙ from-three (5 * i) (omega arith) ∙ from-two (5 * i) (omega arith) ∙ from-one (5 * i) (omega arith)
+                  ∙ getD-set-same rows (5 * i) b 0 (omega arith);
+              start =
+                  from-four (5 * i + 1) (omega arith) ∙ from-three (5 * i + 1) (omega arith) ∙ from-two (5 * i + 1) (omega arith)
+                  ∙ getD-set-same one (5 * i + 1) n 0 (omega (arith, lengths));
+              lower =
+                  from-four (5 * i + 2) (omega arith) ∙ from-three (5 * i + 2) (omega arith)
+                  ∙ getD-set-same two (5 * i + 2) 0 0 (omega (arith, lengths));
+              upper = from-four (5 * i + 3) (omega arith) ∙ getD-set-same three (5 * i + 3) u 0 (omega (arith, lengths));
+              whole = getD-set-same four (5 * i + 4) q 0 (omega (arith, lengths));
+            };
         before = λ j h.
             from-four j (omega arith) ∙ from-three j (omega arith) ∙ from-two j (omega arith) ∙ from-one j (omega arith) ∙ earlier rows (5 * i) j b h;
-        base-is =
-            from-four (5 * i) (omega arith) ∙ from-three (5 * i) (omega arith) ∙ from-two (5 * i) (omega arith) ∙ from-one (5 * i) (omega arith)
-            ∙ getD-set-same rows (5 * i) b 0 (omega arith);
-        start-is =
-            from-four (5 * i + 1) (omega arith) ∙ from-three (5 * i + 1) (omega arith) ∙ from-two (5 * i + 1) (omega arith)
-            ∙ getD-set-same one (5 * i + 1) n 0 (omega (arith, lengths));
-        lower-is =
-            from-four (5 * i + 2) (omega arith) ∙ from-three (5 * i + 2) (omega arith)
-            ∙ getD-set-same two (5 * i + 2) 0 0 (omega (arith, lengths));
-        upper-is = from-four (5 * i + 3) (omega arith) ∙ getD-set-same three (5 * i + 3) u 0 (omega (arith, lengths));
-        whole-is = getD-set-same four (5 * i + 4) q 0 (omega (arith, lengths));
       }
     where
       from-four : (j : ℕ) → j < 5 * i + 4 → getD (set four (5 * i + 4) q) j 0 ≡ getD four j 0
@@ -77,14 +80,13 @@ module _ (bases starts w order : List ℕ) where
       → let a = getD order i 0 in RowPut i (getD bases a 0) (getD starts a 0) (cutAt w a .u) (cutAt w a .q) rows new
       → Rowed bases starts w order new (i + 1)
   rowed-more {rows} {new} i old put = record {
-    at = λ j h.
-        ⊎-elim (kept j) (λ k. subst (λ (y : ℕ). RowAt bases starts w new y (getD order y 0)) {x = i} {y = j} (omega arith) own) (lt-or-ge j i);
+    at = λ j h. ⊎-elim (kept j) (λ k. subst Own {x = i} {y = j} (omega arith) (put .row)) (lt-or-ge j i);
   }
     where
-      own : RowAt bases starts w new i (getD order i 0)
-      own = record { base = put .base-is; start = put .start-is; lower = put .lower-is; upper = put .upper-is; whole = put .whole-is }
+      Own : ℕ → Type 0
+      Own j = let a = getD order j 0 in RowAt new j (getD bases a 0) (getD starts a 0) (cutAt w a .u) (cutAt w a .q)
 
-      kept : (j : ℕ) → j < i → RowAt bases starts w new j (getD order j 0)
+      kept : (j : ℕ) → j < i → Own j
       kept j k =
           let r = old .at j k in
           record {

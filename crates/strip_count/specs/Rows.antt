@@ -13,26 +13,22 @@ unfoldable pub runAxes : ℕ → List ℕ → List ℕ → ℕ → List ℕ → 
 runAxes family bases starts r w =
     haltonAxes (λ i. imageOf family (getD bases i 0)) (λ i. getD bases i 0) (λ i. getD starts i 0) r (λ i. cutAt w i .u) (λ i. cutAt w i .q)
 
--- Row i was written: a base, a start, and the ends 0 and u / q. The rows before it stay.
-pub record RowPut (i base start u q : ℕ) (old new : List ℕ) : Type 0 where
-  pub before : (j : ℕ) → j < 5 * i → getD new j 0 ≡ getD old j 0
-  pub base-is : baseIn new i ≡ base
-  pub start-is : startIn new i ≡ start
-  pub lower-is : lIn new i ≡ 0
-  pub upper-is : uIn new i ≡ u
-  pub whole-is : qIn new i ≡ q
-
--- row i is that of the axis a: its base and start, and its cut as the upper end, over the lower end 0
-pub record RowAt (bases starts w rows : List ℕ) (i a : ℕ) : Type 0 where
-  pub base : baseIn rows i ≡ getD bases a 0
-  pub start : startIn rows i ≡ getD starts a 0
+-- row i is a base, a start, and the ends 0 and u / q
+pub record RowAt (rows : List ℕ) (i b n u q : ℕ) : Type 0 where
+  pub base : baseIn rows i ≡ b
+  pub start : startIn rows i ≡ n
   pub lower : lIn rows i ≡ 0
-  pub upper : uIn rows i ≡ cutAt w a .u
-  pub whole : qIn rows i ≡ cutAt w a .q
+  pub upper : uIn rows i ≡ u
+  pub whole : qIn rows i ≡ q
+
+-- it was written, and the rows before it stay
+pub record RowPut (i b n u q : ℕ) (old new : List ℕ) : Type 0 where
+  pub row : RowAt new i b n u q
+  pub before : (j : ℕ) → j < 5 * i → getD new j 0 ≡ getD old j 0
 
 -- the first s rows are those of the axes in the given order
 pub record Rowed (bases starts w order rows : List ℕ) (s : ℕ) : Type 0 where
-  pub at : (i : ℕ) → i < s → RowAt bases starts w rows i (getD order i 0)
+  pub at : (i : ℕ) → i < s → let a = getD order i 0 in RowAt rows i (getD bases a 0) (getD starts a 0) (cutAt w a .u) (cutAt w a .q)
 
 -- the table holds the images of the digits of s axes, 256 entries an axis, in the given order
 pub record Filled (family : ℕ) (bases order l : List ℕ) (s : ℕ) : Type 0 where
