@@ -8,6 +8,7 @@
 #include <cstring>
 #include <functional>
 #include <memory>
+#include <numeric>
 #include <string>
 #include <vector>
 
@@ -310,16 +311,79 @@ static void strips() {
     }
 }
 
-// A count over a day set with the leading cut 1/4 beside one with 4/4, which walks the whole set.
+// Numbers below a limit, the same in every run.
+struct Numbers {
+    uint64_t state = 20261116;
+    uint64_t below(uint64_t limit) {
+        state = state * 6364136223846793005 + 1442695040888963407;
+        return (state >> 33) % limit;
+    }
+};
+
+// One to six bases up to the limit, no two with a common factor.
+static std::vector<unsigned> random_bases(Numbers &r, unsigned limit) {
+    std::vector<unsigned> bases;
+    size_t axes = 1 + r.below(6);
+    for (int tries = 0; bases.size() < axes && tries < 1000; tries++) {
+        unsigned b = 2 + (unsigned)r.below(limit - 1);
+        if (std::all_of(bases.begin(), bases.end(), [b](unsigned a) { return std::gcd(a, b) == 1; }))
+            bases.push_back(b);
+    }
+    return bases;
+}
+
+// Cuts anywhere, from 7/10 up, or just below 1.
+static Window random_window(Numbers &r, size_t axes) {
+    const uint64_t q = 16777213;
+    const uint64_t low[] = {0, q / 10 * 7, q - 1000};
+    uint64_t from = low[r.below(3)];
+    Window w;
+    for (size_t a = 0; a < axes; a++)
+        w.insert(w.end(), {from + r.below(q - from), q});
+    return w;
+}
+
+// The count by strips beside the walk on random Halton plans, runs and windows: how often it is slower by more than a tenth, and the most.
+static void random_strips() {
+    printf("\n## A window count by strips beside the walk, on random plans\n\n| points, bases | windows | more than 1.1 x of the walk | the most | median of the "
+           "walk over ours |\n|---|---|---|---|---|\n");
+    Numbers r;
+    for (uint64_t n : {1024u, 8192u, 65536u, 524288u})
+        for (unsigned limit : {16u, 256u}) {
+            std::vector<double> ratios;
+            for (int k = 0; k < 200; k++) {
+                std::vector<unsigned> bases = random_bases(r, limit);
+                Case c = halton("random", (int)r.below(2), bases);
+                uint64_t count = n + r.below(n), start = r.below(1u << 31), s[2];
+                Window w = random_window(r, bases.size());
+                uint64_t times = std::max<uint64_t>(1, 32768 / count);
+                auto turn = [&](int by_strips) {
+                    return [&, by_strips] { s[by_strips] = bench_counts(c.bytes.data(), c.bytes.size(), start, count, w.data(), w.size(), by_strips, times); };
+                };
+                std::vector<double> ns = race({{"walk", 1, turn(0)}, {"ours", 1, turn(1)}}, 7);
+                check(s[0] == s[1], "S by strips on random plans");
+                ratios.push_back(ns[1] / ns[0]);
+            }
+            std::sort(ratios.begin(), ratios.end());
+            printf("| from %llu, up to %u | %zu | %td | %.2f | %.2f |\n", (unsigned long long)n, limit, ratios.size(),
+                   std::count_if(ratios.begin(), ratios.end(), [](double x) { return x > 1.1; }), ratios.back(), 1 / ratios[ratios.size() / 2]);
+        }
+}
+
+// A count over a day set with the leading cut 1/4 beside one with 4/4, and beside the walk over a run of a quarter of the points.
 static void day_counts(const std::vector<Case> &all) {
-    printf("\n## A window count over a day set of 200,000 points: ns a point of the set\n\n| plan | leading cut 1/4 | the whole set |\n|---|---|---|\n");
+    printf("\n## A window count over a day set of 200,000 points: µs a window\n\n| plan | leading cut 1/4 | the whole set, and a quarter walked |\n|---|---|---|\n");
+    const double us = 1000; // ns
     for (const Case &c : all) {
-        uint64_t n = 200000, s = 0, t = 0;
+        uint64_t n = 200000, s = 0, t = 0, walked = 0;
         std::vector<uint64_t> plain = window_of(c, {}), quarter = window_of(c, {1, 4}), whole = window_of(c, {4, 4});
-        row(c.name, {{"ours", (double)n, [&] { s = bench_day_counts(c.bytes.data(), c.bytes.size(), n, quarter.data(), quarter.size(), 1); }},
-                     {"whole", (double)n, [&] { t = bench_day_counts(c.bytes.data(), c.bytes.size(), n, whole.data(), whole.size(), 1); }}});
+        print_row(c.name, "µs", {"ours", "whole", "walk"},
+                  race({{"ours", us, [&] { s = bench_day_counts(c.bytes.data(), c.bytes.size(), n, quarter.data(), quarter.size(), 1); }},
+                        {"whole", us, [&] { t = bench_day_counts(c.bytes.data(), c.bytes.size(), n, whole.data(), whole.size(), 1); }},
+                        {"walk", us, [&] { walked = bench_counts(c.bytes.data(), c.bytes.size(), 0, n / 4, plain.data(), plain.size(), false, 1); }}}));
         check(s == baseline_count(&c.plan, 0, n / 4, plain.data()), c.name + ": S of a quarter of a day set");
         check(t == baseline_count(&c.plan, 0, n, plain.data()), c.name + ": S of a day set");
+        check(s == walked, c.name + ": S of a quarter of a day set, walked");
     }
 }
 
@@ -380,6 +444,7 @@ int main() {
     day_blocks(all);
     counts(all);
     strips();
+    random_strips();
     day_counts(all);
     axis_jumps();
     calls(all);

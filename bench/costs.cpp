@@ -137,6 +137,16 @@ static size_t stack_of(bool after_use, std::function<void()> w) {
     return STACK - kept;
 }
 
+// A count by strips goes deepest over the longest run on small bases, by cuts whose digits do not end.
+static size_t strips_stack() {
+    Case c = halton("", 0, {2, 3, 5, 7, 11, 13});
+    for (int a = 0; a < 6; a++) {
+        lent()[2 * a] = 16777212;
+        lent()[2 * a + 1] = 16777213;
+    }
+    return stack_of(true, [&] { bench_counts(c.bytes.data(), c.bytes.size(), 0, 4294967295, lent(), 12, true, 2); });
+}
+
 static void stacks() {
     watch();
     printf("| call | bytes at most |\n|---|---|\n");
@@ -149,6 +159,7 @@ static void stacks() {
         }
         printf("| %s | %zu |\n", call.name, most);
     }
+    printf("| count by strips of 2^32 - 1, bases 2 3 5 7 11 13 | %zu |\n", strips_stack() - none);
 }
 
 int main(int argc, char **argv) {
