@@ -1,5 +1,5 @@
-"""Compares the console's answers with the reference's, on the stored tests, on random scripts and on counts by strips over long runs, and tries how
-its input and output end.
+"""Compares the console's answers with the reference's, on the stored tests, on random scripts, on counts by strips over long runs and on short
+buffers at the end of a run, and tries how its input and output end.
 
 Usage: compare_console.py CONSOLE SEED."""
 import random
@@ -17,6 +17,7 @@ from reference import HALTON, PERMUTED
 
 SCRIPTS = 1000
 LONG_RUNS = 60
+SHORT_RUNS = 60
 
 
 def run(program, script):
@@ -77,6 +78,24 @@ def strips(program, rng):
         compare(f"long run {turn}", script, run(program, script), answers + [""])
 
 
+def short_buffers(program, rng):
+    """Where no point is left, a buffer shorter than one gives 13, in each call, and 12 comes from one point on. The reference says so too."""
+    for turn in range(SHORT_RUNS):
+        plan, count = plans.random_plan(rng), rng.randint(0, 3)
+        axes = len(plan.axes)
+        widths = {"step": axes, "place": axes, "block": axes, "daystep": axes + 1, "dayblock": axes + 1}
+        lines = [f"read {plans.bytes_of(plan).hex()}", f"open {count} {rng.randint(0, 2**32 - count)}", f"day {count}"]
+        lines += [f"block {3 * axes}", f"dayblock {3 * axes + 3}"] * (count > 0)
+        codes = [line.split()[0] + " 0" for line in lines]
+        for room in range(axes + 3):
+            lines += [f"{name} {room}" for name in widths]
+            codes += [f"{name} {13 if room < width else 12}" for name, width in widths.items()]
+        script = "\n".join(lines).encode()
+        answers = run(program, script)
+        compare(f"short buffers {turn}", script, [" ".join(answer.split()[:2]) for answer in answers], codes + [""])
+        compare(f"short buffers {turn}", script, answers, console.answers(script).split("\n"))
+
+
 def random_scripts(program, rng):
     """Scripts of ten parts each; how often each call gave each code."""
     met = Counter()
@@ -115,6 +134,7 @@ def main():
     stored(program)
     ends(program)
     strips(program, random.Random(seed))
+    short_buffers(program, random.Random(seed))
     met = random_scripts(program, random.Random(seed))
     for name, codes in EVERY.items():
         for code in codes:
@@ -122,6 +142,7 @@ def main():
                 sys.exit(f"the answer {name} {code} was only met {met[f'{name} {code}']} times")
     print(f"console: {sum(met.values())} answers of {SCRIPTS} random scripts are the reference's, {met['lines in error']} of them of lines in error")
     print(f"console: so are the counts by strips over {LONG_RUNS} long runs")
+    print(f"console: and short buffers at the end of {SHORT_RUNS} runs and day sets are refused by 13")
 
 
 main()

@@ -167,8 +167,8 @@ def points_taken(kind, console, room, most):
 
     def taken_points():
         held = kind(console.held[kind])
-        reference.refuse_if(held.taken >= held.count, 12)
         reference.refuse_if(room < held.width, 13)
+        reference.refuse_if(held.taken >= held.count, 12)
         k = min(most, held.count - held.taken, room // held.width)
         return k, held.moved(k), held.points(held.start + held.taken, k)
 

@@ -135,28 +135,27 @@ module _ {known : Bool} (s : Sampler) (buf : List ℕ) (width : ℕ) where
   run-foreign g = rw g refl
 
   module _ (g : known ≡ true) where
-    pub run-spent : s .count ≤ s .taken → firstDue (orderBy known s buf width) ≡ 12
+    pub run-no-room : length buf < width → firstDue (orderBy known s buf width) ≡ 13
     unfolding firstDue
-    run-spent h = rw (g, le-leb (s .count) (s .taken) h) refl
+    run-no-room r = rw (g, lt-ltb (length buf) width r) refl
 
-    module _ (h : s .taken < s .count) where
-      pub run-no-room : length buf < width → firstDue (orderBy known s buf width) ≡ 13
-      unfolding firstDue
-      run-no-room r = rw (g, lt-leb (s .count) (s .taken) h, lt-ltb (length buf) width r) refl
+    pub run-spent : s .count ≤ s .taken → width ≤ length buf → firstDue (orderBy known s buf width) ≡ 12
+    unfolding firstDue
+    run-spent h r = rw (g, le-leb (s .count) (s .taken) h, le-ltb (length buf) width r) refl
 
-      pub run-clear : width ≤ length buf → firstDue (orderBy known s buf width) ≡ 0
-      unfolding firstDue
-      run-clear r = rw (g, lt-leb (s .count) (s .taken) h, le-ltb (length buf) width r) refl
+    pub run-clear : s .taken < s .count → width ≤ length buf → firstDue (orderBy known s buf width) ≡ 0
+    unfolding firstDue
+    run-clear h r = rw (g, lt-leb (s .count) (s .taken) h, le-ltb (length buf) width r) refl
 
 -- where none is due, each test passes
 pub run-cleared : (known : Bool) (s : Sampler) (buf : List ℕ) (width : ℕ) → firstDue (orderBy known s buf width) ≡ 0
     → (known ≡ true) × (s .taken < s .count) × (width ≤ length buf)
 run-cleared known s buf width e =
     let a = none-due 14 (not known) _ e in
-    let b = none-due 11 (spent s) _ (a .1) in (
+    let b = none-due 12 (ltb (length buf) width) _ (a .1) in (
       not-false known (a .0),
-      leb-false (s .count) (s .taken) (b .0),
-      ltb-false (length buf) width (none-due 12 (ltb (length buf) width) [] (b .1) .0),
+      leb-false (s .count) (s .taken) (none-due 11 (spent s) [] (b .1) .0),
+      ltb-false (length buf) width (b .0),
     )
 
 module _ (s : Sampler) (buf : List ℕ) where

@@ -174,7 +174,7 @@ module _ (s : Sampler) where
   jump-foreign-iff n buf = foreign-iff s _ (other-due 11 _ _ 15 (λ e. omega arith) (other-due 13 _ [] 15 (λ e. omega arith) none-15))
 
   run-foreign-iff : (buf : List ℕ) → (firstDue (runRefusals s buf) ≡ 15) ↔ (AfterCalls s → ⊥)
-  run-foreign-iff buf = foreign-iff s _ (other-due 12 _ _ 15 (λ e. omega arith) (other-due 13 _ [] 15 (λ e. omega arith) none-15))
+  run-foreign-iff buf = foreign-iff s _ (other-due 13 _ _ 15 (λ e. omega arith) (other-due 12 _ [] 15 (λ e. omega arith) none-15))
 
   pub step-foreign-iff : (buf : List ℕ) → (stepSpec s buf .code ≡ 15) ↔ (AfterCalls s → ⊥)
   unfolding stepSpec

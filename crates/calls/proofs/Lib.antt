@@ -2,6 +2,7 @@
 pub mod CaseLaws
 pub mod PointLaws
 pub mod RowLaws
+pub mod ExchangeLaws
 pub mod RunLaws
 pub mod HistoryLaws
 pub mod ServerLaws

@@ -51,7 +51,7 @@ module _ (p : Plan) (v : Valid p) (r : Run) (fits : inRange r ≡ true) where
     module _ (e : taken ≡ r .count) where
       over : firstDue (runRefusals (made p r taken) buf) ≡ 12
       unfolding made
-      over = run-spent (made p r taken) buf (axisCount p) (is-genuine taken (omega arith)) (omega arith)
+      over = run-spent (made p r taken) buf (axisCount p) (is-genuine taken (omega arith)) (omega arith) room
 
       pub step-over : stepSpec (made p r taken) buf ≡ moved 12 (made p r taken)
       step-over = step-refused (made p r taken) buf 11 over .0

@@ -1,6 +1,6 @@
 -- What each call answers, for all inputs, and what each lent word then holds (01-scope.md, "Runs and windows" and "When a call is turned
--- down"). A call's refusals stand in the paper's order. A refusal answers its number and zero for every other number, the state as given (a
--- refused reading: the blank state), and changes no lent word. Definitions only.
+-- down"). A call's refusals stand in the papers' order: 01's, and of steps and blocks that of 02's K3. A refusal answers its number and zero for every
+-- other number, the state as given (a refused reading: the blank state), and changes no lent word. Definitions only.
 use mathlib.Core.Bool.{Bool, not}
 use mathlib.Core.List.{List, [], _∷_, _++_}
 use Prim.Native.Nat.{ℕ, _+_, _-_, _*_, _/_, _^_, min}
@@ -54,9 +54,9 @@ openOrder isForeign outOfRange = 15 when isForeign ∷ 11 when outOfRange ∷ []
 abbrev pub jumpOrder : Bool → Bool → Bool → List Condition
 jumpOrder isForeign outOfRange noRoom = 15 when isForeign ∷ 11 when outOfRange ∷ 13 when noRoom ∷ []
 
--- steps and blocks
+-- steps and blocks: 13 comes even where no point is left (K3)
 abbrev pub runOrder : Bool → Bool → Bool → List Condition
-runOrder isForeign isSpent noRoom = 15 when isForeign ∷ 12 when isSpent ∷ 13 when noRoom ∷ []
+runOrder isForeign isSpent noRoom = 15 when isForeign ∷ 13 when noRoom ∷ 12 when isSpent ∷ []
 
 -- ---- read: the numbers 1 to 10
 
@@ -103,32 +103,42 @@ jumpSpec s n buf = record { code = firstDue (jumpRefusals s n buf) }
 unfoldable pub jumpBuf : Sampler → ℕ → List ℕ → List ℕ
 jumpBuf s n buf = unlessDue (jumpRefusals s n buf) (pointOf (planIn s) n ++ drop (s .axes) buf) buf
 
--- ---- step and block
+-- ---- step and block, by their order of refusals
 
 abbrev pub runRefusals : Sampler → List ℕ → List Condition
 runRefusals s buf = runOrder (foreign s) (spent s) (noPointRoom s buf)
 
+abbrev pub stepBy : List Condition → Sampler → Moved
+stepBy order s = moved (firstDue order) (unlessDue order (made (planIn s) (runIn s) (s .taken + 1)) s)
+
 unfoldable pub stepSpec : Sampler → List ℕ → Moved
-stepSpec s buf = moved (firstDue (runRefusals s buf)) (unlessDue (runRefusals s buf) (made (planIn s) (runIn s) (s .taken + 1)) s)
+stepSpec s buf = stepBy (runRefusals s buf) s
 
 -- the run's next point
+abbrev pub stepBufBy : List Condition → Sampler → List ℕ → List ℕ
+stepBufBy order s buf = unlessDue order (runPoint (planIn s) (runIn s) (s .taken) ++ drop (s .axes) buf) buf
+
 unfoldable pub stepBuf : Sampler → List ℕ → List ℕ
-stepBuf s buf = unlessDue (runRefusals s buf) (runPoint (planIn s) (runIn s) (s .taken) ++ drop (s .axes) buf) buf
+stepBuf s buf = stepBufBy (runRefusals s buf) s buf
 
 -- as many points as are left and fit whole
 abbrev pub blockSize : Sampler → List ℕ → ℕ
 blockSize s buf = min (s .count - s .taken) (length buf / s .axes)
 
+abbrev pub blockBy : List Condition → Sampler → List ℕ → Blocked
+blockBy order s buf =
+    blocked (firstDue order) (unlessDue order (blockSize s buf) 0) (unlessDue order (made (planIn s) (runIn s) (s .taken + blockSize s buf)) s)
+
 unfoldable pub blockSpec : Sampler → List ℕ → Blocked
-blockSpec s buf =
-    blocked (firstDue (runRefusals s buf)) (unlessDue (runRefusals s buf) (blockSize s buf) 0)
-    (unlessDue (runRefusals s buf) (made (planIn s) (runIn s) (s .taken + blockSize s buf)) s)
+blockSpec s buf = blockBy (runRefusals s buf) s buf
 
 -- those points, one after another
+abbrev pub blockBufBy : List Condition → Sampler → List ℕ → List ℕ
+blockBufBy order s buf =
+    unlessDue order (runPoints (planIn s) (runIn s) (s .taken) (blockSize s buf) ++ drop (blockSize s buf * s .axes) buf) buf
+
 unfoldable pub blockBuf : Sampler → List ℕ → List ℕ
-blockBuf s buf =
-    unlessDue (runRefusals s buf)
-    (runPoints (planIn s) (runIn s) (s .taken) (blockSize s buf) ++ drop (blockSize s buf * s .axes) buf) buf
+blockBuf s buf = blockBufBy (runRefusals s buf) s buf
 
 -- ---- rows: a block with so many words before each point, `lead`, which stay as they are; a block has none, a day set's has one
 

@@ -1,4 +1,5 @@
 pub mod Calls
+pub mod Exchange
 pub mod Steps
 pub mod History
 pub mod Demand2

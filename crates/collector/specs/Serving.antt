@@ -1,8 +1,10 @@
 -- A main loop over one sampler and one buffer, both lent once: it steps until a step answers another number than 0. Definitions only.
-use mathlib.Core.Bool.{cond}
+use mathlib.Core.Bool.{Bool, cond}
 use mathlib.Core.List.{List}
 use Prim.Native.Nat.{ℕ, zero, suc, _-_}
-use lib.Dec.{eqb}
+use lib.Dec.{eqb, leb}
+use lib.ListN.{length}
+use Rattle.state.specs.State.{both, genuine}
 use Rattle.state.specs.declared.Sampler.{Sampler}
 use Rattle.calls.specs.Calls.{stepSpec, stepBuf}
 
@@ -31,3 +33,7 @@ left s = s .count - s .taken
 
 unfoldable pub served : Sampler → List ℕ → Ended
 served s words = servedWithin (left s) s words
+
+-- the day is over: the state is genuine and a point has room, so that every point is served, and 12 comes
+unfoldable pub isOver : Sampler → List ℕ → Bool
+isOver s words = both (genuine s) (leb (s .axes) (length words))

@@ -2,8 +2,9 @@
 use libc::STDOUT_FILENO;
 use sampler::Moved;
 use sampler::Sampler;
+use sampler::refusal;
 ghost use mathlib.Core.Path.{_≡_};
-ghost use Rattle.collector.specs.Serving.{ended, served};
+ghost use Rattle.collector.specs.Serving.{ended, served, isOver};
 
 // Writes a line: the number that a step answered, and the words of the point.
 fn say(code: u64, point: &[u64]) {
@@ -40,10 +41,40 @@ fn keep(s: Sampler, point: &mut [u64]) -> Moved
     Moved { code, state: own }
 }
 
-// Halton, bases 2 and 3: a run of four points, and the step after it.
+// How a day went: whether it is over, and the state.
+struct Day {
+    over: bool,
+    state: Sampler,
+}
+
+// Writes that the day is over, where it is.
+fn tell(over: bool) {
+    if over {
+        io::write_all(STDOUT_FILENO, b"the day is over\n");
+    }
+}
+
+// Serves what is left of a run, and says whether the day is over: at 12 alone. A buffer that is shorter than a point, 13, ends no day, and the state
+// goes on from where it is once it has room.
+fn serve_day(s: Sampler, point: &mut [u64]) -> Day
+    ensures { λ r. ⌜ (r .over ≡ isOver s (now (point .entry)))
+        × (r .state ≡ served s (now (point .entry)) .state)
+        × (now (point .exit) ≡ served s (now (point .entry)) .words) ⌝ }
+{
+    let r = keep(s, point);
+    let state = r.state;
+    let over = r.code == refusal::EXHAUSTED;
+    tell(over);
+    Day { over, state }
+}
+
+// Halton, bases 2 and 3, a run of four points: first lent too few words, then enough, and with no point left too few again.
 fn main() {
     let r = sampler::read(&[16, 8, 16]);
     let o = sampler::open(r.state, 0, 4);
+    let mut short = [0u64; 1];
+    let a = serve_day(o.state, &mut short);
     let mut point = [0u64; 2];
-    keep(o.state, &mut point);
+    let b = serve_day(a.state, &mut point);
+    serve_day(b.state, &mut short);
 }

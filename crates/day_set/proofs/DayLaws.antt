@@ -63,10 +63,10 @@ module _ (p : Plan) (v : Valid p) where
         unfolding dayMade made
         day-block-at = rw (plan-in-made p v (dayRun N) taken) at (day-block-done (dayMade p N taken) buf day-none)
 
-      module _ (e : taken ≡ N) where
+      module _ (room : widthOf p ≤ length buf) (e : taken ≡ N) where
         over : firstDue (dayRunRefusals (dayMade p N taken) buf) ≡ 12
         unfolding dayMade made
-        over = run-spent (dayMade p N taken .run) buf (widthOf p) (day-genuine taken (omega arith)) (omega arith)
+        over = run-spent (dayMade p N taken .run) buf (widthOf p) (day-genuine taken (omega arith)) (omega arith) room
 
         pub day-step-over : dayStepSpec (dayMade p N taken) buf .code ≡ 12
         day-step-over = ap (λ (a : _). a .code) (day-step-refused (dayMade p N taken) buf 11 over .0)

@@ -123,7 +123,7 @@ module _ (d : DaySet) where
   day-jump-foreign-iff n buf = day-foreign-iff d _ (other-due 11 _ _ 15 (λ e. omega arith) (other-due 13 _ [] 15 (λ e. omega arith) none-15))
 
   day-run-foreign-iff : (buf : List ℕ) → (firstDue (dayRunRefusals d buf) ≡ 15) ↔ (DayAfterCalls d → ⊥)
-  day-run-foreign-iff buf = day-foreign-iff d _ (other-due 12 _ _ 15 (λ e. omega arith) (other-due 13 _ [] 15 (λ e. omega arith) none-15))
+  day-run-foreign-iff buf = day-foreign-iff d _ (other-due 13 _ _ 15 (λ e. omega arith) (other-due 12 _ [] 15 (λ e. omega arith) none-15))
 
   pub day-step-foreign-iff : (buf : List ℕ) → (dayStepSpec d buf .code ≡ 15) ↔ (DayAfterCalls d → ⊥)
   unfolding dayStepSpec

@@ -106,8 +106,8 @@ module _ (p : Plan) (v : Valid p) (N : ℕ) (fits : N ≤ 2 ^ 32) where
           ap (λ (t : DaySet). take (widthOf p) (dayStepBuf t buf)) is ∙ day-step-point p v N fits k buf h l,
         );
         over = λ buf h e. (
-          ap (λ (t : DaySet). dayStepSpec t buf .code) is ∙ day-step-over p v N fits k buf e,
-          ap (λ (t : DaySet). dayBlockSpec t buf .code) is ∙ day-block-over p v N fits k buf e,
+          ap (λ (t : DaySet). dayStepSpec t buf .code) is ∙ day-step-over p v N fits k buf h e,
+          ap (λ (t : DaySet). dayBlockSpec t buf .code) is ∙ day-block-over p v N fits k buf h e,
         );
         jump = λ buf h n l.
             let j = day-jump-at p v N fits k buf n (omega (arith, a .0 .within)) h l in (
@@ -140,7 +140,7 @@ at-end p v buf room d (taken, h, is) =
       λ e. rw e (
         ap (λ (a : _). a .code) (s .0),
         day-step-point p v (2 ^ 32) fits 4294967295 buf room (omega arith),
-        ap (λ (a : _). dayStepSpec (a .set) buf .code) (s .0) ∙ day-step-over p v (2 ^ 32) fits (4294967295 + 1) buf (omega arith),
+        ap (λ (a : _). dayStepSpec (a .set) buf .code) (s .0) ∙ day-step-over p v (2 ^ 32) fits (4294967295 + 1) buf room (omega arith),
       ),
     )
 

@@ -63,30 +63,40 @@ dayJumpSpec d n buf = record { code = firstDue (dayJumpRefusals d n buf) }
 unfoldable pub dayJumpBuf : DaySet → ℕ → List ℕ → List ℕ
 dayJumpBuf d n buf = unlessDue (dayJumpRefusals d n buf) (dayPoint (dayPlan d) n ++ drop (dayWidth d) buf) buf
 
--- ---- step and block
+-- ---- step and block, by their order of refusals
 
 abbrev pub dayRunRefusals : DaySet → List ℕ → List Condition
 dayRunRefusals d buf = runOrder (foreignDay d) (spentDay d) (noDayRoom d buf)
 
+abbrev pub dayStepBy : List Condition → DaySet → DayMoved
+dayStepBy order d = dayMoved (firstDue order) (unlessDue order (dayMade (dayPlan d) (daySize d) (dayTaken d + 1)) d)
+
 unfoldable pub dayStepSpec : DaySet → List ℕ → DayMoved
-dayStepSpec d buf =
-    dayMoved (firstDue (dayRunRefusals d buf)) (unlessDue (dayRunRefusals d buf) (dayMade (dayPlan d) (daySize d) (dayTaken d + 1)) d)
+dayStepSpec d buf = dayStepBy (dayRunRefusals d buf) d
 
 -- the next point
+abbrev pub dayStepBufBy : List Condition → DaySet → List ℕ → List ℕ
+dayStepBufBy order d buf = unlessDue order (dayPoint (dayPlan d) (dayTaken d) ++ drop (dayWidth d) buf) buf
+
 unfoldable pub dayStepBuf : DaySet → List ℕ → List ℕ
-dayStepBuf d buf = unlessDue (dayRunRefusals d buf) (dayPoint (dayPlan d) (dayTaken d) ++ drop (dayWidth d) buf) buf
+dayStepBuf d buf = dayStepBufBy (dayRunRefusals d buf) d buf
 
 -- as many points as are left and fit whole
 abbrev pub dayBlockSize : DaySet → List ℕ → ℕ
 dayBlockSize d buf = min (daySize d - dayTaken d) (length buf / dayWidth d)
 
+abbrev pub dayBlockBy : List Condition → DaySet → List ℕ → DayBlocked
+dayBlockBy order d buf =
+    dayBlocked (firstDue order) (unlessDue order (dayBlockSize d buf) 0)
+    (unlessDue order (dayMade (dayPlan d) (daySize d) (dayTaken d + dayBlockSize d buf)) d)
+
 unfoldable pub dayBlockSpec : DaySet → List ℕ → DayBlocked
-dayBlockSpec d buf =
-    dayBlocked (firstDue (dayRunRefusals d buf)) (unlessDue (dayRunRefusals d buf) (dayBlockSize d buf) 0)
-    (unlessDue (dayRunRefusals d buf) (dayMade (dayPlan d) (daySize d) (dayTaken d + dayBlockSize d buf)) d)
+dayBlockSpec d buf = dayBlockBy (dayRunRefusals d buf) d buf
 
 -- those points, one after another
+abbrev pub dayBlockBufBy : List Condition → DaySet → List ℕ → List ℕ
+dayBlockBufBy order d buf =
+    unlessDue order (dayPoints (dayPlan d) (dayTaken d) (dayBlockSize d buf) ++ drop (dayBlockSize d buf * dayWidth d) buf) buf
+
 unfoldable pub dayBlockBuf : DaySet → List ℕ → List ℕ
-dayBlockBuf d buf =
-    unlessDue (dayRunRefusals d buf)
-    (dayPoints (dayPlan d) (dayTaken d) (dayBlockSize d buf) ++ drop (dayBlockSize d buf * dayWidth d) buf) buf
+dayBlockBuf d buf = dayBlockBufBy (dayRunRefusals d buf) d buf

@@ -1,4 +1,5 @@
 pub mod DaySet
 pub mod Calls
+pub mod Exchange
 pub mod History
 pub mod Serving

@@ -1,4 +1,5 @@
-// Runs the edges and the traps of 01-scope.md through the calls, one line each: what was asked, and the number that came.
+// Runs the edges and the traps of 01-scope.md, and some of 02-change-requests.md, through the calls, one line each: what was asked, and the number
+// that came.
 use libc::STDOUT_FILENO;
 use sampler::Counted;
 use sampler::DaySet;
@@ -204,6 +205,21 @@ fn empty_day_set(s: Sampler) {
     report_count(b"count 1/1 1/1 1/1 over it", c);
 }
 
+// No point is left, and the buffer is shorter than one: 13 comes before 12.
+fn short_at_the_end(s: Sampler) {
+    let a = sampler::open(s, 0, 0);
+    let mut short = [0u64; 1];
+    let b = sampler::step(a.state, &mut short);
+    report(b"step of a run of 0 points into 1 word", b.code);
+    let c = sampler::block(a.state, &mut short);
+    report(b"block of it into 1 word", c.code);
+    let m = sampler::make_day_set(s, 0);
+    let d = sampler::day_step(m.set, &mut short);
+    report(b"step of a day set of 0 points into 1 word", d.code);
+    let e = sampler::day_block(m.set, &mut short);
+    report(b"block of it into 1 word", e.code);
+}
+
 // A sampler whose run starts elsewhere is no day set, and the blank state makes none.
 fn foreign_day_sets(s: Sampler) {
     let a = sampler::open(s, 1, 6);
@@ -228,5 +244,6 @@ fn main() {
     blank_state();
     largest_day_set(r.state);
     empty_day_set(r.state);
+    short_at_the_end(r.state);
     foreign_day_sets(r.state);
 }

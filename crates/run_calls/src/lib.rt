@@ -25,12 +25,12 @@ pub fn step(s: Sampler, out: &mut [u64]) -> Moved
     ) {
         return calls::refused(refusal::INVALID_STATE, s);
     }
-    if s.count <= s.taken {
-        return calls::refused(refusal::EXHAUSTED, s);
-    }
     let axes = s.axes;
     if out.len() < axes {
         return calls::refused(refusal::BUFFER_TOO_SMALL, s);
+    }
+    if s.count <= s.taken {
+        return calls::refused(refusal::EXHAUSTED, s);
     }
     let x = s.numerators;
     bits::store(out, 0, &x[..axes]);
@@ -92,13 +92,13 @@ pub fn block_rows(s: Sampler, lead: usize, out: &mut [u64]) -> Blocked
     ) {
         return no_block(refusal::INVALID_STATE, s);
     }
-    if s.taken >= s.count {
-        return no_block(refusal::EXHAUSTED, s);
-    }
     let axes = s.axes;
     let width = lead + axes;
     if out.len() < width {
         return no_block(refusal::BUFFER_TOO_SMALL, s);
+    }
+    if s.taken >= s.count {
+        return no_block(refusal::EXHAUSTED, s);
     }
     let k = block_size(s.count - s.taken, out.len(), width);
     blocks::fill(

@@ -43,20 +43,20 @@ returns c =
     let a = start (c .before .before) .args in
     rows-none (a .t1) (a .lead) (a .out .now) _ 14 (run-foreign (a .t1) (a .out .now) _ (foreign (c .before))) (c .no-block .ensures)
 
+add-width : tie.Need-add-width
+add-width c = omega (arith, axes-few _ (known c))
+
 returns-2 : tie.Need-returns-2
 returns-2 c =
     let k = c .before .before in
     let a = start (k .before) .args in
-    rows-none (a .t1) (a .lead) (a .out .now) _ 11 (run-spent (a .t1) (a .out .now) _ (known k) (omega arith)) (c .no-block2 .ensures)
-
-add-width : tie.Need-add-width
-add-width c = omega (arith, axes-few _ (known (c .before)))
+    rows-none (a .t1) (a .lead) (a .out .now) _ 12 (run-no-room (a .t1) (a .out .now) _ (known k) (omega arith)) (c .no-block2 .ensures)
 
 returns-3 : tie.Need-returns-3
 returns-3 c =
     let k = c .before .before .before in
     let a = start (k .before) .args in
-    rows-none (a .t1) (a .lead) (a .out .now) _ 12 (run-no-room (a .t1) (a .out .now) _ (known k) (omega arith) (omega arith)) (c .no-block3 .ensures)
+    rows-none (a .t1) (a .lead) (a .out .now) _ 11 (run-spent (a .t1) (a .out .now) _ (known k) (omega arith) (omega arith)) (c .no-block3 .ensures)
 
 -- where the points are written, the state is genuine
 abbrev clear : tie.After-block-size → tie.Else1
@@ -112,7 +112,7 @@ returns-4 c =
     let s = known (clear p) in
     let a = start (clear p .before) .args in
     let k = p .block-size .ensures in
-    let w = rows-done (a .lead) (a .t1) (a .out .now) (run-clear (a .t1) (a .out .now) _ s (omega (arith, p .before .before .if2 .left)) (omega (arith, p .before .if3 .left))) in (
+    let w = rows-done (a .lead) (a .t1) (a .out .now) (run-clear (a .t1) (a .out .now) _ s (omega (arith, p .before .if3 .left)) (omega (arith, p .before .before .if2 .left))) in (
       answer _ _ _ _ k (c .with-run .ensures ∙ ap (λ (j : ℕ). made (planIn (a .t1)) (runIn (a .t1)) (a .t1 .taken + j)) k) ∙ sym w,
       columns-as (c .before .before .before .before .before .before .before .before .before .fill .ensures) (rowNumerator (a .t1)) (row-numerators (a .t1) s),
     )
@@ -124,9 +124,9 @@ block-rows-spec =
     is-genuine-requires
     no-block-requires
     returns
+    add-width
     no-block-requires-2
     returns-2
-    add-width
     no-block-requires-3
     returns-3
     sub-block-size

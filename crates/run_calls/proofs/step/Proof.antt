@@ -43,13 +43,13 @@ returns-2 : tie.Need-returns-2
 returns-2 c =
     let k = c .before .before in
     let a = start (k .before) .args in
-    let w = step-refused (a .t1) (a .out .now) 11 (run-spent (a .t1) (a .out .now) _ (known k) (omega arith)) in (c .refused2 .ensures ∙ sym (w .0), sym (w .1))
+    let w = step-refused (a .t1) (a .out .now) 12 (run-no-room (a .t1) (a .out .now) _ (known k) (omega arith)) in (c .refused2 .ensures ∙ sym (w .0), sym (w .1))
 
 returns-3 : tie.Need-returns-3
 returns-3 c =
     let k = c .before .before .before in
     let a = start (k .before) .args in
-    let w = step-refused (a .t1) (a .out .now) 12 (run-no-room (a .t1) (a .out .now) _ (known k) (omega arith) (omega arith)) in
+    let w = step-refused (a .t1) (a .out .now) 11 (run-spent (a .t1) (a .out .now) _ (known k) (omega arith) (omega arith)) in
     (c .refused3 .ensures ∙ sym (w .0), sym (w .1))
 
 -- where the point is written, the state is genuine
