@@ -69,7 +69,8 @@ module _ (s : Sampler) (buf : List ℕ) where
       × (stepBufBy (formerRefusals s buf) s buf ≡ stepBuf s buf)
   unfolding stepSpec stepBuf
   step-compared = (
-    unfold unlessDue in exchanged (genuine s) s buf (s .axes) (λ n. moved n (unlessNumber n (made (planIn s) (runIn s) (s .taken + 1)) s)) (λ e. omega (arith, ap (λ (a : _). a .code) e)),
+    unfold unlessDue in exchanged (genuine s) s buf (s .axes)
+        (λ n. moved n (unlessNumber n (made (planIn s) (runIn s) (s .taken + 1)) s)) (λ e. omega (arith, ap (λ (a : _). a .code) e)),
     kept (genuine s) s buf (s .axes) _ _,
     kept (genuine s) s buf (s .axes) _ _,
   )
@@ -79,9 +80,9 @@ module _ (s : Sampler) (buf : List ℕ) where
   unfolding stepSpec
   place-compared = exchanged (genuine s) s buf (s .axes) (λ n. n) (λ e. omega (arith, e))
 
-  pub block-compared : Exchanged (SpentAndShort s buf) (blocked 12 0 s) (blocked 13 0 s) (blockBy (formerRefusals s buf) s buf) (blockSpec s buf)
-      × (blockBy (formerRefusals s buf) s buf .points ≡ blockSpec s buf .points)
-      × (blockBy (formerRefusals s buf) s buf .state ≡ blockSpec s buf .state)
+  pub block-compared : Exchanged (SpentAndShort s buf) (blocked 12 0 s) (blocked 13 0 s) (blockBy (formerRefusals s buf) (blockSize s buf) s) (blockSpec s buf)
+      × (blockBy (formerRefusals s buf) (blockSize s buf) s .points ≡ blockSpec s buf .points)
+      × (blockBy (formerRefusals s buf) (blockSize s buf) s .state ≡ blockSpec s buf .state)
       × (blockBufBy (formerRefusals s buf) s buf ≡ blockBuf s buf)
   unfolding blockSpec blockBuf
   block-compared = (

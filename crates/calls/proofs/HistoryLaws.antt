@@ -26,7 +26,7 @@ use Rattle.state.specs.declared.Sampler.{Sampler}
 use Rattle.state.proofs.GenuineLaws.{Permitted, genuine-is, made-genuine}
 use Rattle.state.proofs.PlanLaws.{plan-in-made}
 use Rattle.state.proofs.HistoryLaws.{genuine-iff}
-use Rattle.calls.specs.Calls.{moved, readState, readSpec, foreign, writeSpec, openSpec, jumpSpec, runRefusals, stepSpec, blockSize, blockSpec, secondSpec}
+use Rattle.calls.specs.Calls.{moved, readState, readSpec, foreign, runOrder, writeSpec, openSpec, jumpSpec, runRefusals, stepSpec, blockSize, blockSpec, secondSpec}
 use Rattle.calls.specs.History.{After, read, opened, stepped, filled, lastRun, AfterCalls}
 use Rattle.calls.proofs.CaseLaws.{open-done, run-cleared, step-done, block-done}
 use Rattle.calls.proofs.RunLaws.{step-at, open-at}
@@ -160,6 +160,12 @@ foreign-iff s = test-iff (genuine s) (after-iff s)
 pub none-15 : firstDue [] ≡ 15 → ⊥
 none-15 = none-given 15 (λ e. omega arith)
 
+-- the order of steps and blocks
+pub run-test-iff : {P : Type 0} (test : Bool) → P ↔ (test ≡ true) → (isSpent noRoom : Bool)
+    → (firstDue (runOrder (not test) isSpent noRoom) ≡ 15) ↔ (P → ⊥)
+run-test-iff test decides isSpent noRoom =
+    test-iff test decides _ (other-due 13 noRoom _ 15 (λ e. omega arith) (other-due 12 isSpent [] 15 (λ e. omega arith) none-15))
+
 module _ (s : Sampler) where
   pub write-foreign-iff : (buf : List ℕ) → (writeSpec s buf .code ≡ 15) ↔ (AfterCalls s → ⊥)
   unfolding writeSpec
@@ -174,7 +180,7 @@ module _ (s : Sampler) where
   jump-foreign-iff n buf = foreign-iff s _ (other-due 11 _ _ 15 (λ e. omega arith) (other-due 13 _ [] 15 (λ e. omega arith) none-15))
 
   run-foreign-iff : (buf : List ℕ) → (firstDue (runRefusals s buf) ≡ 15) ↔ (AfterCalls s → ⊥)
-  run-foreign-iff buf = foreign-iff s _ (other-due 13 _ _ 15 (λ e. omega arith) (other-due 12 _ [] 15 (λ e. omega arith) none-15))
+  run-foreign-iff buf = run-test-iff (genuine s) (after-iff s) _ _
 
   pub step-foreign-iff : (buf : List ℕ) → (stepSpec s buf .code ≡ 15) ↔ (AfterCalls s → ⊥)
   unfolding stepSpec

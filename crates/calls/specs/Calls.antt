@@ -125,12 +125,11 @@ stepBuf s buf = stepBufBy (runRefusals s buf) s buf
 abbrev pub blockSize : Sampler → List ℕ → ℕ
 blockSize s buf = min (s .count - s .taken) (length buf / s .axes)
 
-abbrev pub blockBy : List Condition → Sampler → List ℕ → Blocked
-blockBy order s buf =
-    blocked (firstDue order) (unlessDue order (blockSize s buf) 0) (unlessDue order (made (planIn s) (runIn s) (s .taken + blockSize s buf)) s)
+abbrev pub blockBy : List Condition → ℕ → Sampler → Blocked
+blockBy order k s = blocked (firstDue order) (unlessDue order k 0) (unlessDue order (made (planIn s) (runIn s) (s .taken + k)) s)
 
 unfoldable pub blockSpec : Sampler → List ℕ → Blocked
-blockSpec s buf = blockBy (runRefusals s buf) s buf
+blockSpec s buf = blockBy (runRefusals s buf) (blockSize s buf) s
 
 -- those points, one after another
 abbrev pub blockBufBy : List Condition → Sampler → List ℕ → List ℕ
@@ -149,9 +148,7 @@ abbrev pub rowsSize : ℕ → Sampler → List ℕ → ℕ
 rowsSize lead s buf = min (s .count - s .taken) (length buf / (lead + s .axes))
 
 unfoldable pub rowsSpec : ℕ → Sampler → List ℕ → Blocked
-rowsSpec lead s buf =
-    blocked (firstDue (rowsRefusals lead s buf)) (unlessDue (rowsRefusals lead s buf) (rowsSize lead s buf) 0)
-    (unlessDue (rowsRefusals lead s buf) (made (planIn s) (runIn s) (s .taken + rowsSize lead s buf)) s)
+rowsSpec lead s buf = blockBy (rowsRefusals lead s buf) (rowsSize lead s buf) s
 
 -- the numerator of axis i in row k
 unfoldable pub rowNumerator : Sampler → ℕ → ℕ → ℕ

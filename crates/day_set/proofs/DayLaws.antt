@@ -1,20 +1,18 @@
 -- What calls come to on the day sets that a plan, a size and a number of points taken make. Assumes nothing.
-use mathlib.Core.Path.{_≡_, refl, sym, ap, _∙_}
+use mathlib.Core.Path.{_≡_, refl, ap, _∙_}
 use mathlib.Core.Bool.{true}
 use mathlib.Core.List.{List, _++_}
 use Prim.Native.Nat.{ℕ, suc, _+_, _-_, _*_, _/_, _^_, _≤_, _<_, min}
 use native.Mathlib.Omega.{arith}
-use lib.Dec.{eqb}
 use lib.ListN.{length, take, drop}
 use lib.Seq.{take-at}
 use borrow.Author.Tests.{eq-eqb}
 use Rattle.plan.specs.Plan.{Plan, Valid}
 use Rattle.plan.specs.Order.{firstDue}
-use Rattle.points.specs.Point.{axisCount}
-use Rattle.points.specs.Run.{Run, runOf, inRange}
+use Rattle.points.specs.Run.{Run, inRange}
 use Rattle.points.proofs.PointLaws.{point-of-length}
 use Rattle.points.proofs.RunLaws.{is-range}
-use Rattle.state.specs.State.{made, genuine}
+use Rattle.state.specs.State.{made}
 use Rattle.state.proofs.SameLaws.{true-both}
 use Rattle.state.proofs.PlanLaws.{plan-in-made}
 use Rattle.state.proofs.GenuineLaws.{made-genuine}

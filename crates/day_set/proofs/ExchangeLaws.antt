@@ -24,9 +24,9 @@ module _ (d : DaySet) (buf : List ℕ) where
   )
 
   pub day-block-compared :
-      Exchanged (DaySpentAndShort d buf) (dayBlocked 12 0 d) (dayBlocked 13 0 d) (dayBlockBy (formerDayRefusals d buf) d buf) (dayBlockSpec d buf)
-      × (dayBlockBy (formerDayRefusals d buf) d buf .points ≡ dayBlockSpec d buf .points)
-      × (dayBlockBy (formerDayRefusals d buf) d buf .set ≡ dayBlockSpec d buf .set)
+      Exchanged (DaySpentAndShort d buf) (dayBlocked 12 0 d) (dayBlocked 13 0 d) (dayBlockBy (formerDayRefusals d buf) (dayBlockSize d buf) d) (dayBlockSpec d buf)
+      × (dayBlockBy (formerDayRefusals d buf) (dayBlockSize d buf) d .points ≡ dayBlockSpec d buf .points)
+      × (dayBlockBy (formerDayRefusals d buf) (dayBlockSize d buf) d .set ≡ dayBlockSpec d buf .set)
       × (dayBlockBufBy (formerDayRefusals d buf) d buf ≡ dayBlockBuf d buf)
   unfolding dayBlockSpec dayBlockBuf
   day-block-compared = (

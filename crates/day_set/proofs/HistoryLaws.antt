@@ -1,6 +1,6 @@
 -- The history of a day set by calls: it is genuine exactly where an accepted making, with accepted steps and blocks after it, leaves it, and a call
 -- answers 15 exactly where none does. Assumes nothing.
-use mathlib.Core.Path.{_≡_, refl, sym, ap, _∙_, subst}
+use mathlib.Core.Path.{_≡_, sym, ap, _∙_, subst}
 use mathlib.Core.Bool.{true}
 use mathlib.Core.Logic.{_↔_}
 use mathlib.Core.List.{List, [], _∷_}
@@ -12,14 +12,14 @@ use lib.ListN.{length, replicate, length-replicate}
 use Rattle.plan.specs.Plan.{Plan, Valid, spell}
 use Rattle.plan.specs.Order.{Condition, _when_, firstDue}
 use Rattle.plan.proofs.OrderLaws.{other-due}
-use Rattle.points.specs.Run.{runOf, inRange}
+use Rattle.points.specs.Run.{runOf}
 use Rattle.points.proofs.RunLaws.{range-is, is-range}
-use Rattle.state.specs.State.{made, planIn, runIn, genuine}
+use Rattle.state.specs.State.{made, runIn}
 use Rattle.state.specs.declared.Sampler.{Sampler}
-use Rattle.state.proofs.GenuineLaws.{Permitted, genuine-is}
-use Rattle.calls.specs.History.{After, AfterCalls}
+use Rattle.state.proofs.GenuineLaws.{genuine-is}
+use Rattle.calls.specs.History.{AfterCalls}
 use Rattle.calls.proofs.CaseLaws.{run-cleared}
-use Rattle.calls.proofs.HistoryLaws.{test-iff, foreign-iff, none-15, Leaves, of-made, leaves-genuine, leaves-plan, none-opened, after-leaves, after-steps}
+use Rattle.calls.proofs.HistoryLaws.{test-iff, foreign-iff, none-15, run-test-iff, Leaves, of-made, leaves-genuine, leaves-plan, none-opened, after-leaves, after-steps}
 use Rattle.day_set.specs.DaySet.{dayOf, dayRun, dayMade, dayPlan, daySize, dayTaken, dayWidth, genuineDay}
 use Rattle.day_set.specs.Calls.{foreignDay, makeSpec, dayJumpSpec, dayRunRefusals, dayStepSpec, dayBlockSize, dayBlockSpec}
 use Rattle.day_set.specs.History.{DayAfter, make, stepped, filled, DayAfterCalls}
@@ -27,7 +27,7 @@ use Rattle.day_set.specs.Serving.{widthOf}
 use Rattle.day_set.specs.declared.DaySet.{DaySet}
 use Rattle.day_set.proofs.CaseLaws.{by-run, day-is}
 use Rattle.day_set.proofs.OrderLaws.{make-accepted, make-done, day-step-done, day-block-done}
-use Rattle.day_set.proofs.DayLaws.{make-at, day-genuine, day-step-at}
+use Rattle.day_set.proofs.DayLaws.{make-at, day-step-at}
 
 -- ---- accepted calls leave a sampler of the plan that was read, whose run starts at 0
 
@@ -123,7 +123,7 @@ module _ (d : DaySet) where
   day-jump-foreign-iff n buf = day-foreign-iff d _ (other-due 11 _ _ 15 (λ e. omega arith) (other-due 13 _ [] 15 (λ e. omega arith) none-15))
 
   day-run-foreign-iff : (buf : List ℕ) → (firstDue (dayRunRefusals d buf) ≡ 15) ↔ (DayAfterCalls d → ⊥)
-  day-run-foreign-iff buf = day-foreign-iff d _ (other-due 13 _ _ 15 (λ e. omega arith) (other-due 12 _ [] 15 (λ e. omega arith) none-15))
+  day-run-foreign-iff buf = run-test-iff (genuineDay d) (day-after-iff d) _ _
 
   pub day-step-foreign-iff : (buf : List ℕ) → (dayStepSpec d buf .code ≡ 15) ↔ (DayAfterCalls d → ⊥)
   unfolding dayStepSpec

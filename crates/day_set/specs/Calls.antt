@@ -85,13 +85,11 @@ dayStepBuf d buf = dayStepBufBy (dayRunRefusals d buf) d buf
 abbrev pub dayBlockSize : DaySet → List ℕ → ℕ
 dayBlockSize d buf = min (daySize d - dayTaken d) (length buf / dayWidth d)
 
-abbrev pub dayBlockBy : List Condition → DaySet → List ℕ → DayBlocked
-dayBlockBy order d buf =
-    dayBlocked (firstDue order) (unlessDue order (dayBlockSize d buf) 0)
-    (unlessDue order (dayMade (dayPlan d) (daySize d) (dayTaken d + dayBlockSize d buf)) d)
+abbrev pub dayBlockBy : List Condition → ℕ → DaySet → DayBlocked
+dayBlockBy order k d = dayBlocked (firstDue order) (unlessDue order k 0) (unlessDue order (dayMade (dayPlan d) (daySize d) (dayTaken d + k)) d)
 
 unfoldable pub dayBlockSpec : DaySet → List ℕ → DayBlocked
-dayBlockSpec d buf = dayBlockBy (dayRunRefusals d buf) d buf
+dayBlockSpec d buf = dayBlockBy (dayRunRefusals d buf) (dayBlockSize d buf) d
 
 -- those points, one after another
 abbrev pub dayBlockBufBy : List Condition → DaySet → List ℕ → List ℕ
