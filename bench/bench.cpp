@@ -406,10 +406,61 @@ static void axis_jumps() {
         }
 }
 
-static void calls(const std::vector<Case> &all) {
+static std::vector<uint64_t> thousand_indexes() {
     std::vector<uint64_t> indexes(1000);
     for (uint64_t i = 0; i < 1000; i++)
         indexes[i] = 123456789 ^ i;
+    return indexes;
+}
+
+// A plan's last axis alone, as plain C has it, and its denominator.
+static plan_t last_axis(const plan_t &p) {
+    plan_t last = p;
+    last.axes = 1;
+    last.base[0] = p.base[p.axes - 1];
+    memcpy(last.direction[0], p.direction[p.axes - 1], sizeof last.direction[0]);
+    return last;
+}
+
+static uint64_t denominator(const plan_t &p) {
+    uint64_t d = p.family == 2 ? 4294967296u : p.base[0];
+    while (d < 4294967296u)
+        d *= p.base[0];
+    return d;
+}
+
+// A slot on the last axis, where the state is tested at each call, beside a jump, which has every axis, and plain C on that axis alone, which tests
+// nothing; and the second of the day beside the slot that it is.
+static void slots(const std::vector<Case> &all) {
+    std::vector<uint64_t> indexes = thousand_indexes();
+    printf("\n## A slot of 250 on the last axis: ns\n\n| plan | ours | a jump; C with tables and reciprocals made beforehand, no test of a state; slot of 86,400 on axis 1; second |\n|---|---|---|\n");
+    for (const Case &c : all) {
+        uint64_t ours = 0, plain = 0, slot = 0, second = 0, out[6];
+        plan_t last = last_axis(c.plan);
+        uint64_t d = denominator(last);
+        jumper_t j;
+        baseline_prepare(&last, &j);
+        auto asked = [&](uint64_t axis, uint64_t slots, bool daily) {
+            return bench_slots(c.bytes.data(), c.bytes.size(), indexes.data(), indexes.size(), axis, slots, daily);
+        };
+        row(c.name, {{"ours", 1000, [&] { ours = asked((uint64_t)c.plan.axes, 250, false); }},
+                     {"jump", 1000, [&] { bench_jumps(c.bytes.data(), c.bytes.size(), 123456789, 1000, out, 6); }},
+                     {"C", 1000, [&] {
+                          plain = 0;
+                          for (uint64_t n : indexes) {
+                              baseline_jump(&j, n, out);
+                              plain ^= out[0] * 250 / d;
+                          }
+                      }},
+                     {"slot of a day", 1000, [&] { slot = asked(1, 86400, false); }},
+                     {"second", 1000, [&] { second = asked(0, 0, true); }}});
+        check(ours == plain, c.name + ": a slot");
+        check(slot == second, c.name + ": the second of the day");
+    }
+}
+
+static void calls(const std::vector<Case> &all) {
+    std::vector<uint64_t> indexes = thousand_indexes();
     printf("\n## One call: ns\n\n| plan | jump | second | step | step in place | C point | plain C jump, tables and reciprocals made beforehand | Boost | QuantLib |\n|---|---|---|---|---|---|---|---|---|\n");
     for (const Case &c : all) {
         uint64_t out[6];
@@ -420,7 +471,7 @@ static void calls(const std::vector<Case> &all) {
         size_t len = c.bytes.size();
         std::vector<Program> programs = {
             {"jump", 1000, [&] { bench_jumps(plan, len, 123456789, 1000, out, 6); }},
-            {"second", 1000, [&] { bench_seconds(plan, len, indexes.data(), indexes.size()); }},
+            {"second", 1000, [&] { bench_slots(plan, len, indexes.data(), indexes.size(), 1, 86400, true); }},
             {"step", 1000, [&] { bench_steps(plan, len, 123456789, 1000, out, 6); }},
             {"step in place", 1000, [&] { bench_steps_in_place(plan, len, 123456789, 1000, out, 6); }},
             {"C point", 1000, jumps([&](uint32_t n) { hisowake_point(plan, len, n, bytes, 48); })},
@@ -450,5 +501,6 @@ int main() {
     random_strips();
     day_counts(all);
     axis_jumps();
+    slots(all);
     calls(all);
 }

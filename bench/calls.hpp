@@ -13,7 +13,7 @@ extern "C" {
 uint64_t bench_blocks(const uint8_t *plan, size_t plan_len, uint64_t start, uint64_t rounds, uint64_t *out, size_t out_len);
 uint64_t bench_day_blocks(const uint8_t *plan, size_t plan_len, uint64_t size, uint64_t rounds, uint64_t *out, size_t out_len);
 uint64_t bench_jumps(const uint8_t *plan, size_t plan_len, uint64_t first, uint64_t rounds, uint64_t *out, size_t out_len);
-uint64_t bench_seconds(const uint8_t *plan, size_t plan_len, const uint64_t *indexes, size_t indexes_len);
+uint64_t bench_slots(const uint8_t *plan, size_t plan_len, const uint64_t *indexes, size_t indexes_len, uint64_t axis, uint64_t slots, bool daily);
 uint64_t bench_axis_jumps(uint64_t family, uint64_t base, uint64_t first, uint64_t rounds);
 uint64_t bench_steps(const uint8_t *plan, size_t plan_len, uint64_t start, uint64_t rounds, uint64_t *out, size_t out_len);
 uint64_t bench_steps_in_place(const uint8_t *plan, size_t plan_len, uint64_t start, uint64_t rounds, uint64_t *out, size_t out_len);

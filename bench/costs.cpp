@@ -48,7 +48,9 @@ static void c_count(const Case &c, uint64_t rounds) {
 static std::vector<Call> calls() {
     return {
         {"jump", true, [](const Case &c, uint64_t n) { bench_jumps(c.bytes.data(), c.bytes.size(), 123456789, n, lent(), 6); }},
-        {"second", true, [](const Case &c, uint64_t n) { bench_seconds(c.bytes.data(), c.bytes.size(), lent() - 1, n); }},
+        {"second", true, [](const Case &c, uint64_t n) { bench_slots(c.bytes.data(), c.bytes.size(), lent() - 1, n, 1, 86400, true); }},
+        {"slot of 250 on the last axis", true,
+         [](const Case &c, uint64_t n) { bench_slots(c.bytes.data(), c.bytes.size(), lent() - 1, n, (uint64_t)c.plan.axes, 250, false); }},
         {"step", true, [](const Case &c, uint64_t n) { bench_steps(c.bytes.data(), c.bytes.size(), 123456789, n, lent(), 6); }},
         {"step in place", true,
          [](const Case &c, uint64_t n) { bench_steps_in_place(c.bytes.data(), c.bytes.size(), 123456789, n, lent(), 6); }},

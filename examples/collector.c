@@ -1,21 +1,21 @@
 /*
- * A street collector's main loop: one point an index, which says when to wake and which meter to call on which channel. The loop takes nothing
- * from the heap and keeps nothing but the index.
+ * A street collector's main loop: one point an index, which says when to wake and which meter to call on which channel: one plan and three numbers
+ * of slots. The loop takes nothing from the heap and keeps nothing but the index.
  *
- *   collector START COUNT
+ *   collector START COUNT [SECONDS]
+ *
+ * The day has 86,400 seconds, or as many as are given: 82,800 or 90,000 where the clock changes. The rule is that of the call `slot`, which hosts do
+ * not have: the crate timetable writes the same lines by it.
  */
 #include "denominators.h"
 #include "hisowake.h"
 
 #include <stdio.h>
 
-enum { AXES = 3, DAY = 86400, METERS = 250, CHANNELS = 8 };
+enum { AXES = 3, DAY = 86400, METERS = 250, CHANNELS = 8, SLOTS_MAX = 1 << 24 };
 
 /* The plan: the permuted Halton sequence, bases 2, 3 and 5. Family 01, axes 011, then base minus 1 in 8 bits each and three zero bits. */
 static const uint8_t PLAN[] = {0x58, 0x08, 0x10, 0x20};
-
-/* what each axis is divided into */
-static const uint64_t PARTS[AXES] = {DAY, METERS, CHANNELS};
 
 /* A numerator out of 8 bytes, most significant first. */
 static uint64_t number_at(const uint8_t *bytes) {
@@ -33,11 +33,11 @@ static const char *reason(uint64_t code) {
     }
 }
 
-/* The whole part of each axis's fraction times its parts. A numerator is below 2^40 and the parts are below 2^17, so that 64 bits hold it. */
-static void slots_of(const uint8_t *point, const uint64_t *denominators, uint64_t *slots) {
-    for (int axis = 0; axis < AXES; axis++)
-        slots[axis] = number_at(point + 8 * axis) * PARTS[axis] / denominators[axis];
-}
+/*
+ * The slot of a fraction: the whole part of numerator / denominator times the number of slots. A numerator is below 2^40 and there are 2^24 slots at
+ * most, so that 64 bits hold the product.
+ */
+static uint64_t slot_of(uint64_t numerator, uint64_t denominator, uint64_t slots) { return numerator * slots / denominator; }
 
 /* Reads a decimal number below 2^64. Gives 0 for any other text. */
 static int read_number(const char *text, uint64_t *n) {
@@ -52,9 +52,13 @@ static int read_number(const char *text, uint64_t *n) {
 }
 
 int main(int argc, char **argv) {
-    uint64_t start, count, denominators[HISOWAKE_AXES_MAX];
-    if (argc != 3 || !read_number(argv[1], &start) || !read_number(argv[2], &count)) {
-        fprintf(stderr, "usage: collector START COUNT, two decimal numbers below 2^64\n");
+    uint64_t start, count, day = DAY, denominators[HISOWAKE_AXES_MAX];
+    if (argc < 3 || argc > 4 || !read_number(argv[1], &start) || !read_number(argv[2], &count)) {
+        fprintf(stderr, "usage: collector START COUNT [SECONDS], START and COUNT decimal numbers below 2^64\n");
+        return 2;
+    }
+    if (argc == 4 && (!read_number(argv[3], &day) || day < 1 || day > SLOTS_MAX)) {
+        fprintf(stderr, "collector: SECONDS, the length of the day, is a decimal number from 1 to %d\n", SLOTS_MAX);
         return 2;
     }
     if (denominators_of_plan(PLAN, sizeof PLAN, denominators) != AXES) {
@@ -63,15 +67,17 @@ int main(int argc, char **argv) {
     }
     for (uint64_t i = 0; i < count; i++) {
         uint8_t point[8 * AXES];
-        uint64_t slots[AXES], index = start + i;
+        uint64_t index = start + i;
         uint64_t code = hisowake_point(PLAN, sizeof PLAN, index, point, sizeof point);
         if (code != HISOWAKE_OK) {
             printf("index %llu: refused %llu: %s\n", (unsigned long long)index, (unsigned long long)code, reason(code));
             return 1;
         }
-        slots_of(point, denominators, slots);
-        printf("index %llu: sleep until second %llu, call meter %llu on channel %llu\n", (unsigned long long)index,
-               (unsigned long long)slots[0], (unsigned long long)slots[1], (unsigned long long)slots[2]);
+        uint64_t second = slot_of(number_at(point), denominators[0], day);
+        uint64_t meter = slot_of(number_at(point + 8), denominators[1], METERS);
+        uint64_t channel = slot_of(number_at(point + 16), denominators[2], CHANNELS);
+        printf("index %llu: sleep until second %llu, call meter %llu on channel %llu\n", (unsigned long long)index, (unsigned long long)second,
+               (unsigned long long)meter, (unsigned long long)channel);
     }
     return 0;
 }

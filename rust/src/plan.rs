@@ -127,6 +127,16 @@ impl Plan {
     /// assert_eq!(plan.denominator(2), None);
     /// # Ok::<(), Refusal>(())
     /// ```
+    ///
+    /// A point's slot on an axis, of up to 2^24 equal ones, is the whole part of its fraction times their number:
+    ///
+    /// ```
+    /// # use hisowake::{Plan, Refusal};
+    /// # let plan = Plan::read(&[0x10, 0x08, 0x10])?;
+    /// let slots: Vec<Option<u64>> = (0..2).map(|axis| Some(plan.point(6).ok()?[axis] * 90000 / plan.denominator(axis)?)).collect();
+    /// assert_eq!(slots, [Some(33750), Some(20000)]); // of a day of 90,000 seconds: 3/8 and 2/9
+    /// # Ok::<(), Refusal>(())
+    /// ```
     #[must_use]
     pub fn denominator(&self, axis: usize) -> Option<u64> {
         if axis >= self.axes() {

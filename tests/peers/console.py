@@ -129,16 +129,23 @@ def make_day_set(console, words):
     return [code]
 
 
-def second(console, words):
-    (index,) = numbers(words, "second INDEX", 1)
-
-    def of_day():
+def slot_answer(console, index, axis, slots):
+    def slot_of():
         plan = Run(console.held[Run]).plan
         reference.refuse_if(index >= INDEXES, 11)
-        return reference.point(plan, index)[0] * 86400 // reference.denominators(plan)[0]
+        return reference.slot(plan, index, axis, slots)
 
-    code, answer = refusable(of_day)
+    code, answer = refusable(slot_of)
     return [code, answer or 0]
+
+
+def second(console, words):
+    (index,) = numbers(words, "second INDEX", 1)
+    return slot_answer(console, index, 1, 86400)
+
+
+def slot(console, words):
+    return slot_answer(console, *numbers(words, "slot INDEX AXIS SLOTS", 3))
 
 
 # ---- the calls on what the console holds: its state's run or its day set
@@ -227,6 +234,7 @@ CALLS = {
     "open": open_run,
     "jump": partial(jump, Run, "jump INDEX ROOM"),
     "second": second,
+    "slot": slot,
     "step": partial(step, Run, "step ROOM"),
     "place": partial(step, Run, "place ROOM"),
     "block": partial(block, Run, "block ROOM"),

@@ -171,6 +171,12 @@ def point(plan, index):
     return tuple(halton_numerator(base, index, images(plan.family, base)) for base in plan.axes)
 
 
+def slot(plan, index, axis, slots):
+    """The whole part of the axis's fraction x slots, axes being counted from 1."""
+    refuse_if(not 1 <= axis <= len(plan.axes) or not 1 <= slots <= 2**24, 16)
+    return point(plan, index)[axis - 1] * slots // denominators(plan)[axis - 1]
+
+
 def next_sobol_point(plan, index, here):
     """The point after that of `index`: xor v_c, c the place of the rightmost zero bit of `index`."""
     c = 1

@@ -66,7 +66,7 @@ def opening(rng):
 
 
 def call(rng, console):
-    kind = rng.choice((jump, jump, step, step, step, block, second, count, strips, write, opening_again, wrong_line, day_call))
+    kind = rng.choice((jump, jump, step, step, step, block, second, slot, slot, count, strips, write, opening_again, wrong_line, day_call))
     return kind(rng, console)
 
 
@@ -92,6 +92,14 @@ def block(rng, console):
 
 def second(rng, console):
     return text("second", index(rng))
+
+
+def slot(rng, console):
+    """An axis that the plan has, or one beside; a day, a power, a few slots, the most, or a number that is none."""
+    axis = rng.choice((1, 1, rng.randint(1, 6), 0, rng.randint(1, 7), rng.randrange(2**64)))
+    most, days, wrong = 2**24, (82800, 86400, 90000), (0, 2**24 + 1, rng.randrange(2**64))
+    slots = rng.choice(days + (most, most - 1, 1, 2 ** rng.randint(0, 24), rng.randint(1, 300), rng.randint(1, most)) + (rng.choice(wrong),))
+    return text("slot", index(rng), axis, slots)
 
 
 def write(rng, console):
@@ -225,4 +233,4 @@ def wrong_line(rng, console):
 
 def call_line(rng, console):
     """A call whose numbers may grow a digit and still be answered in no time."""
-    return rng.choice((reading, jump, step, second, write, making, day_jump, day_step))(rng, console)
+    return rng.choice((reading, jump, step, second, slot, write, making, day_jump, day_step))(rng, console)

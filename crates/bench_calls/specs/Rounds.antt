@@ -1,5 +1,5 @@
 -- The calls in loops: what so many rounds of a call answer and leave. Definitions only.
-use mathlib.Core.Bool.{cond}
+use mathlib.Core.Bool.{Bool, cond}
 use mathlib.Core.List.{List}
 use Prim.Native.Nat.{ℕ, zero, suc, _%_, _^_}
 use lib.Bits.{bitXor}
@@ -9,7 +9,7 @@ use Rattle.permutation.specs.Families.{imageOf}
 use Rattle.halton.specs.Axis.{numerator}
 use Rattle.points.specs.Run.{runOf}
 use Rattle.state.specs.declared.Sampler.{Sampler}
-use Rattle.calls.specs.Calls.{readSpec, openSpec, jumpSpec, jumpBuf, secondSpec, stepSpec, stepBuf, blockSpec, blockBuf}
+use Rattle.calls.specs.Calls.{readSpec, openSpec, jumpSpec, jumpBuf, secondSpec, slotSpec, stepSpec, stepBuf, blockSpec, blockBuf}
 use Rattle.window_count.specs.declared.Counted.{Counted}
 use Rattle.day_set.specs.Calls.{makeSpec, dayBlockSpec, dayBlockBuf}
 use Rattle.day_set.specs.declared.DaySet.{DaySet}
@@ -58,8 +58,12 @@ stepRound _ t = turn (stepSpec (t .state) (t .words) .code) (stepSpec (t .state)
 unfoldable pub axisRound : ℕ → ℕ → ℕ → ℕ → ℕ → ℕ
 axisRound family b first i x = bitXor x (numerator (imageOf family b) b (indexAt first i))
 
-unfoldable pub secondRound : Sampler → List ℕ → ℕ → ℕ → ℕ
-secondRound s indexes i x = bitXor x (secondSpec s (getD indexes i 0) .second)
+-- a slot by either call
+unfoldable pub slotBy : Bool → Sampler → ℕ → ℕ → ℕ → ℕ
+slotBy daily s axis slots n = cond daily (secondSpec s n .second) (slotSpec s n axis slots .slot)
+
+unfoldable pub slotRound : Bool → Sampler → ℕ → ℕ → List ℕ → ℕ → ℕ → ℕ
+slotRound daily s axis slots indexes i x = bitXor x (slotBy daily s axis slots (getD indexes i 0))
 
 -- ---- the loops
 
@@ -79,9 +83,9 @@ stepsOf s n words = rounds stepRound (turn 0 s words) n
 unfoldable pub axisJumpsOf : ℕ → ℕ → ℕ → ℕ → ℕ
 axisJumpsOf family b first n = cond (ltb b 2) 0 (cond (ltb 256 b) 0 (rounds (axisRound family b first) 0 n))
 
--- the exclusive or of the indexes' seconds
-unfoldable pub secondsOf : Sampler → List ℕ → ℕ
-secondsOf s indexes = rounds (secondRound s indexes) 0 (length indexes)
+-- the exclusive or of the indexes' slots
+unfoldable pub slotsOf : Bool → Sampler → ℕ → ℕ → List ℕ → ℕ
+slotsOf daily s axis slots indexes = rounds (slotRound daily s axis slots indexes) 0 (length indexes)
 
 -- S of a count's answer, or 0 where there was no round
 unfoldable pub countsOf : Counted → ℕ → ℕ

@@ -5,7 +5,7 @@ use sampler::Sampler;
 ghost use mathlib.Core.Path.{_≡_};
 ghost use Rattle.window_count.specs.Call.{countSpec};
 ghost use Rattle.day_count.specs.Count.{dayCountSpec};
-ghost use Rattle.bench_calls.specs.Rounds.{openedState, madeSet, blocksOf, dayBlocksOf, jumpsOf, axisJumpsOf, secondsOf, stepsOf, countsOf};
+ghost use Rattle.bench_calls.specs.Rounds.{openedState, madeSet, blocksOf, dayBlocksOf, jumpsOf, axisJumpsOf, slotBy, slotsOf, stepsOf, countsOf};
 
 // The state of a plan with a run opened.
 fn opened(plan: &[u8], start: u64, count: u64) -> Sampler
@@ -94,17 +94,34 @@ pub extern "C" fn bench_axis_jumps(family: u64, b: u64, first: u64, rounds: u64)
     x
 }
 
-// Asks for the second of the day of each index of a list. Answers the seconds' exclusive or.
+// A slot by either call: that of 86,400 on axis 1, which is the second of the day, or any.
+fn slot_by(s: Sampler, index: u64, axis: u64, slots: u64, daily: bool) -> u64
+    ensures { λ r. ⌜ r ≡ slotBy daily s axis slots index ⌝ }
+{
+    if daily {
+        let r = sampler::second(s, index);
+        return r.second;
+    }
+    let r = sampler::slot(s, index, axis, slots);
+    r.slot
+}
+
+// Asks for the slot, or for the second of the day, of each index of a list. Answers their exclusive or.
 #[no_mangle]
-pub extern "C" fn bench_seconds(plan: &[u8], indexes: &[u64]) -> u64
-    ensures { λ r. ⌜ r ≡ secondsOf (openedState (now (plan .entry)) 0 0) (now (indexes .entry)) ⌝ }
+pub extern "C" fn bench_slots(
+    plan: &[u8],
+    indexes: &[u64],
+    axis: u64,
+    slots: u64,
+    daily: bool,
+) -> u64
+    ensures { λ r. ⌜ r ≡ slotsOf daily (openedState (now (plan .entry)) 0 0) axis slots (now (indexes .entry)) ⌝ }
 {
     let s = opened(plan, 0, 0);
     let mut x = 0;
     let mut i = 0;
     while i < indexes.len() {
-        let r = sampler::second(s, indexes[i]);
-        x = x ^ r.second;
+        x = x ^ slot_by(s, indexes[i], axis, slots, daily);
         i += 1;
     }
     x

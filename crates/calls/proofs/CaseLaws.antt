@@ -1,11 +1,11 @@
 -- Each answer of each call, from the tests that lead to it. Assumes nothing.
 use mathlib.Core.Path.{_≡_, refl, sym, ap, _∙_}
-use mathlib.Core.Bool.{Bool, true, false, not}
+use mathlib.Core.Bool.{Bool, true, false, not, and-eq-true-iff}
 use mathlib.Core.List.{List, [], _++_}
-use Prim.Native.Nat.{ℕ, suc, _+_, _*_, _^_, _≤_, _<_}
-use lib.Dec.{ltb}
+use Prim.Native.Nat.{ℕ, suc, _+_, _-_, _*_, _^_, _≤_, _<_}
+use lib.Dec.{ltb, leb}
 use lib.ListN.{length, drop}
-use borrow.Author.Tests.{lt-ltb, le-ltb, le-leb, lt-leb, leb-false, ltb-false, not-true, not-false}
+use borrow.Author.Tests.{lt-ltb, le-ltb, le-leb, lt-leb, leb-true, leb-false, ltb-false, not-true, not-false}
 use Rattle.bits.specs.Stream.{AllBelow}
 use Rattle.plan.specs.Plan.{halton, sobol, spell}
 use Rattle.plan.specs.Reading.{Reading, refused, accepted, readPlan}
@@ -20,7 +20,7 @@ use Rattle.writer.specs.Parts.{noRoom, Written}
 use Rattle.writer.specs.declared.PlanWritten.{PlanWritten}
 use Rattle.state.specs.State.{made, blank, planIn, runIn, genuine}
 use Rattle.state.specs.declared.Sampler.{Sampler}
-use Rattle.calls.specs.Calls.{moved, blocked, spent, runOrder, readState, readSpec, writeSpec, writeBuf, openSpec, jumpSpec, jumpBuf, runRefusals, stepSpec, stepBuf, blockSize, blockSpec, blockBuf, rowsRefusals, rowsSize, rowsSpec, secondSpec}
+use Rattle.calls.specs.Calls.{moved, blocked, slotted, spent, runOrder, readState, readSpec, writeSpec, writeBuf, openSpec, jumpSpec, jumpBuf, runRefusals, stepSpec, stepBuf, blockSize, blockSpec, blockBuf, rowsRefusals, rowsSize, rowsSpec, secondSpec, isFromOne, hasSlots, slotSpec}
 
 -- ---- the test that every call makes first, negated in the code
 
@@ -206,3 +206,64 @@ module _ (s : Sampler) (n : ℕ) where
     pub second-done : n < 2 ^ 32 → secondSpec s n ≡ record { code = 0; second = slotOf (planIn s) 86400 n 0 }
     unfolding secondSpec firstDue unlessDue
     second-done h = rw (g, lt-leb (2 ^ 32) n h) refl
+
+-- ---- slot
+
+module _ (axes axis slots : ℕ) where
+  -- the tests of the code, one after another
+  pub slots-before : axis < 1 → hasSlots axes axis slots ≡ false
+  unfolding hasSlots
+  slots-before h = rw (lt-leb 1 axis h) refl
+
+  pub slots-past : 1 ≤ axis → axes < axis → hasSlots axes axis slots ≡ false
+  unfolding hasSlots
+  slots-past l h = rw (le-leb 1 axis l, lt-leb axis axes h) refl
+
+  pub slots-none : 1 ≤ axis → axis ≤ axes → slots < 1 → hasSlots axes axis slots ≡ false
+  unfolding hasSlots
+  slots-none l m h = rw (le-leb 1 axis l, le-leb axis axes m, lt-leb 1 slots h) refl
+
+  pub slots-by : 1 ≤ axis → axis ≤ axes → 1 ≤ slots → leb slots (2 ^ 24) ≡ hasSlots axes axis slots
+  unfolding hasSlots
+  slots-by l m h = rw (le-leb 1 axis l, le-leb axis axes m, le-leb 1 slots h) refl
+
+  pub slots-range : hasSlots axes axis slots ≡ true → (1 ≤ axis) × (axis ≤ axes) × (1 ≤ slots) × (slots ≤ 2 ^ 24)
+  unfolding hasSlots
+  slots-range e =
+      let a = and-eq-true-iff (isFromOne axes axis) (isFromOne (2 ^ 24) slots) .0 e in
+      let b = and-eq-true-iff (leb 1 axis) (leb axis axes) .0 (a .0) in
+      let c = and-eq-true-iff (leb 1 slots) (leb slots (2 ^ 24)) .0 (a .1) in
+      (leb-true 1 axis (b .0), leb-true axis axes (b .1), leb-true 1 slots (c .0), leb-true slots (2 ^ 24) (c .1))
+
+  pub slots-taken : 1 ≤ axis → axis ≤ axes → 1 ≤ slots → slots ≤ 2 ^ 24 → hasSlots axes axis slots ≡ true
+  slots-taken l m h k = sym (slots-by l m h) ∙ le-leb slots (2 ^ 24) k
+
+module _ (s : Sampler) (n axis slots : ℕ) where
+  pub slot-foreign : genuine s ≡ false → slotSpec s n axis slots ≡ slotted 15 0
+  unfolding slotSpec firstDue unlessDue
+  slot-foreign g = rw g refl
+
+  -- where it is answered, each test passes
+  pub slot-accepted : slotSpec s n axis slots .code ≡ 0 → (genuine s ≡ true) × (n < 2 ^ 32) × (hasSlots (s .axes) axis slots ≡ true)
+  unfolding slotSpec
+  slot-accepted z =
+      let a = none-due 14 (not (genuine s)) _ z in
+      let b = none-due 10 (leb (2 ^ 32) n) _ (a .1) in (
+        not-false (genuine s) (a .0),
+        leb-false (2 ^ 32) n (b .0),
+        not-false (hasSlots (s .axes) axis slots) (none-due 15 (not (hasSlots (s .axes) axis slots)) [] (b .1) .0),
+      )
+
+  module _ (g : genuine s ≡ true) where
+    pub slot-out : 2 ^ 32 ≤ n → slotSpec s n axis slots ≡ slotted 11 0
+    unfolding slotSpec firstDue unlessDue
+    slot-out h = rw (g, le-leb (2 ^ 32) n h) refl
+
+    pub slot-off : n < 2 ^ 32 → hasSlots (s .axes) axis slots ≡ false → slotSpec s n axis slots ≡ slotted 16 0
+    unfolding slotSpec firstDue unlessDue
+    slot-off h k = rw (g, lt-leb (2 ^ 32) n h, k) refl
+
+    pub slot-done : n < 2 ^ 32 → hasSlots (s .axes) axis slots ≡ true
+        → slotSpec s n axis slots ≡ slotted 0 (slotOf (planIn s) slots n (axis - 1))
+    unfolding slotSpec firstDue unlessDue
+    slot-done h k = rw (g, lt-leb (2 ^ 32) n h, k) refl

@@ -26,7 +26,7 @@ use Rattle.state.specs.declared.Sampler.{Sampler}
 use Rattle.state.proofs.GenuineLaws.{Permitted, genuine-is, made-genuine}
 use Rattle.state.proofs.PlanLaws.{plan-in-made}
 use Rattle.state.proofs.HistoryLaws.{genuine-iff}
-use Rattle.calls.specs.Calls.{moved, readState, readSpec, foreign, runOrder, writeSpec, openSpec, jumpSpec, runRefusals, stepSpec, blockSize, blockSpec, secondSpec}
+use Rattle.calls.specs.Calls.{moved, readState, readSpec, foreign, runOrder, writeSpec, openSpec, jumpSpec, runRefusals, stepSpec, blockSize, blockSpec, secondSpec, slotSpec}
 use Rattle.calls.specs.History.{After, read, opened, stepped, filled, lastRun, AfterCalls}
 use Rattle.calls.proofs.CaseLaws.{open-done, run-cleared, step-done, block-done}
 use Rattle.calls.proofs.RunLaws.{step-at, open-at}
@@ -193,3 +193,7 @@ module _ (s : Sampler) where
   pub second-foreign-iff : (n : ℕ) → (secondSpec s n .code ≡ 15) ↔ (AfterCalls s → ⊥)
   unfolding secondSpec
   second-foreign-iff n = foreign-iff s _ (other-due 11 _ [] 15 (λ e. omega arith) none-15)
+
+  pub slot-foreign-iff : (n axis slots : ℕ) → (slotSpec s n axis slots .code ≡ 15) ↔ (AfterCalls s → ⊥)
+  unfolding slotSpec
+  slot-foreign-iff n axis slots = foreign-iff s _ (other-due 11 _ _ 15 (λ e. omega arith) (other-due 16 _ [] 15 (λ e. omega arith) none-15))

@@ -8,3 +8,4 @@ pub mod HistoryLaws
 pub mod ServerLaws
 pub mod ServingLaws
 pub mod RoundTrip
+pub mod SlotLaws

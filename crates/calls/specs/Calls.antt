@@ -1,7 +1,7 @@
 -- What each call answers, for all inputs, and what each lent word then holds (01-scope.md, "Runs and windows" and "When a call is turned
 -- down"). A call's refusals stand in the papers' order: 01's, and of steps and blocks that of 02's K3. A refusal answers its number and zero for every
 -- other number, the state as given (a refused reading: the blank state), and changes no lent word. Definitions only.
-use mathlib.Core.Bool.{Bool, not}
+use mathlib.Core.Bool.{Bool, not, _&&_}
 use mathlib.Core.List.{List, [], _∷_, _++_}
 use Prim.Native.Nat.{ℕ, _+_, _-_, _*_, _/_, _^_, min}
 use lib.Dec.{ltb, leb}
@@ -18,12 +18,16 @@ use Rattle.calls.specs.declared.Moved.{Moved}
 use Rattle.calls.specs.declared.Jumped.{Jumped}
 use Rattle.calls.specs.declared.Blocked.{Blocked}
 use Rattle.calls.specs.declared.SecondOfDay.{SecondOfDay}
+use Rattle.calls.specs.declared.Slotted.{Slotted}
 
 abbrev pub moved : ℕ → Sampler → Moved
 moved n s = record { code = n; state = s }
 
 abbrev pub blocked : ℕ → ℕ → Sampler → Blocked
 blocked n k s = record { code = n; points = k; state = s }
+
+abbrev pub slotted : ℕ → ℕ → Slotted
+slotted n slot = record { code = n; slot = slot }
 
 -- ---- the conditions
 
@@ -165,3 +169,22 @@ secondSpec s n = record {
   code = firstDue (secondRefusals s n);
   second = unlessDue (secondRefusals s n) (slotOf (planIn s) 86400 n 0) 0;
 }
+
+-- ---- slot (02-change-requests.md, K4)
+
+-- a number from 1 to `most`
+abbrev pub isFromOne : ℕ → ℕ → Bool
+isFromOne most n = leb 1 n && leb n most
+
+-- the plan has the axis, the first being axis 1, and the slot count is from 1 to 2^24
+unfoldable pub hasSlots : ℕ → ℕ → ℕ → Bool
+hasSlots axes axis slots = isFromOne axes axis && isFromOne (2 ^ 24) slots
+
+-- 16, slots: a slot count outside its range, or an axis that the plan lacks
+abbrev pub slotRefusals : Sampler → ℕ → ℕ → ℕ → List Condition
+slotRefusals s n axis slots = 15 when foreign s ∷ 11 when beyond n ∷ 16 when not (hasSlots (s .axes) axis slots) ∷ []
+
+-- the whole part of the axis's fraction × slots
+unfoldable pub slotSpec : Sampler → ℕ → ℕ → ℕ → Slotted
+slotSpec s n axis slots =
+    slotted (firstDue (slotRefusals s n axis slots)) (unlessDue (slotRefusals s n axis slots) (slotOf (planIn s) slots n (axis - 1)) 0)

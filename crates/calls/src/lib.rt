@@ -27,6 +27,12 @@ pub struct SecondOfDay {
     pub second: u64,
 }
 
+// A refusal's number or 0, and the slot.
+pub struct Slotted {
+    pub code: u64,
+    pub slot: u64,
+}
+
 // A call that is turned down: its number, and the state as given.
 pub fn refused(code: u64, s: Sampler) -> Moved
     ensures { λ r. ⌜ r ≡ moved code s ⌝ }

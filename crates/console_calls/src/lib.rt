@@ -61,6 +61,15 @@ pub fn second(c: Console, out: &mut [u8], index: u64) -> Console
     console_text::with_lines(c, lines)
 }
 
+// The slot of an index on an axis; the state stays.
+pub fn slot(c: Console, out: &mut [u8], index: u64, axis: u64, slots: u64) -> Console
+    ensures { λ r. ⌜ Holds r (c .state) (c .day) ⌝ }
+{
+    let s = sampler::slot(c.state, index, axis, slots);
+    let lines = console_text::answer(c.lines, out, b"slot", &[s.code, s.slot], &[]);
+    console_text::with_lines(c, lines)
+}
+
 // ---- on a run
 
 // The run's next point, into lent words: the state moved on.

@@ -23,7 +23,7 @@ fn day_state_line(c: Console, out: &mut [u8], key: &[u8], rest: &[u8]) -> Consol
     console_text::error(
         c,
         out,
-        b"read, write, open, jump, second, step, place, block, count, strips, state, poke, blank, day, dayjump, daystep, dayblock, daycount, daystate, daypoke, dayblank or # as the first word",
+        b"read, write, open, jump, second, slot, step, place, block, count, strips, state, poke, blank, day, dayjump, daystep, dayblock, daycount, daystate, daypoke, dayblank or # as the first word",
     )
 }
 
@@ -99,6 +99,9 @@ fn plan_line(c: Console, out: &mut [u8], key: &[u8], rest: &[u8]) -> Console
     }
     if check::same(key, b"second") {
         return console_lines::second(c, out, rest);
+    }
+    if check::same(key, b"slot") {
+        return console_lines::slot(c, out, rest);
     }
     run_line(c, out, key, rest)
 }

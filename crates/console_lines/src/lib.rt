@@ -9,6 +9,7 @@ pub use plain_lines::count;
 pub use plain_lines::day;
 pub use plain_lines::poke;
 pub use plain_lines::second;
+pub use plain_lines::slot;
 pub use plain_lines::state;
 pub use plan_lines::open;
 pub use plan_lines::read;

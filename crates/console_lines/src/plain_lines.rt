@@ -13,6 +13,16 @@ pub fn second(c: Console, out: &mut [u8], rest: &[u8]) -> Console {
     console_calls::second(c, out, n[0])
 }
 
+// `slot INDEX AXIS SLOTS`.
+pub fn slot(c: Console, out: &mut [u8], rest: &[u8]) -> Console {
+    let mut n = [0u64; 3];
+    let r = console_text::read_numbers(rest, &mut n);
+    let Numbers::Read = r else {
+        return console_text::misread(c, out, b"slot INDEX AXIS SLOTS", r);
+    };
+    console_calls::slot(c, out, n[0], n[1], n[2])
+}
+
 // `day N`.
 pub fn day(c: Console, out: &mut [u8], rest: &[u8]) -> Console {
     let mut n = [0u64; 1];

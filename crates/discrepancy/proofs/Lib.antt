@@ -5,3 +5,4 @@ pub mod ThinLaws
 pub mod FairLaws
 pub mod BoundLaws
 pub mod FitLaws
+pub mod SlotLaws

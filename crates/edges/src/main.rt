@@ -163,6 +163,60 @@ fn seconds() {
     report(b"second of index 4294967296", b.code);
 }
 
+// What the slot call answers: the refusal's number or 0, and the slot.
+fn slot(label: &[u8], s: Sampler, index: u64, axis: u64, slots: u64) {
+    let r = sampler::slot(s, index, axis, slots);
+    report(label, r.code);
+    report(b"  slot", r.slot);
+}
+
+// R2's index and the last one on days of 82,800, 86,400 and 90,000 seconds.
+fn days() {
+    let r = sampler::read(&[8, 8]);
+    slot(b"slot of 82800, index 6 in base 2", r.state, 6, 1, 82800);
+    slot(b"slot of 86400, index 6 in base 2", r.state, 6, 1, 86400);
+    slot(b"slot of 90000, index 6 in base 2", r.state, 6, 1, 90000);
+    slot(
+        b"slot of 82800, index 4294967295",
+        r.state,
+        4294967295,
+        1,
+        82800,
+    );
+    slot(
+        b"slot of 86400, index 4294967295",
+        r.state,
+        4294967295,
+        1,
+        86400,
+    );
+    slot(
+        b"slot of 90000, index 4294967295",
+        r.state,
+        4294967295,
+        1,
+        90000,
+    );
+}
+
+// The ends of what the slot call takes, of two axes: slot counts from 1 to 2^24, and axes from 1.
+fn slot_ends(s: Sampler) {
+    slot(b"slot of 1 on axis 1", s, 4294967295, 1, 1);
+    slot(b"slot of 16777216 on axis 1", s, 4294967295, 1, 16777216);
+    slot(b"slot of 16777216 on axis 2", s, 4294967295, 2, 16777216);
+    slot(b"slot of 0 on axis 1", s, 0, 1, 0);
+    slot(b"slot of 16777217 on axis 1", s, 0, 1, 16777217);
+    slot(b"slot of 86400 on axis 0", s, 0, 0, 86400);
+    slot(b"slot of 86400 on axis 3", s, 0, 3, 86400);
+    slot(
+        b"slot of 0 on axis 0, index 4294967296",
+        s,
+        4294967296,
+        0,
+        0,
+    );
+}
+
 // A refused reading hands back the blank state, which every call turns down.
 fn blank_state() {
     let r = sampler::read(&[]);
@@ -241,6 +295,8 @@ fn main() {
     whole_run(r.state);
     wrong_windows(r.state);
     seconds();
+    days();
+    slot_ends(r.state);
     blank_state();
     largest_day_set(r.state);
     empty_day_set(r.state);

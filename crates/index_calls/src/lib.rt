@@ -1,11 +1,12 @@
-// The calls on any index of a plan: its point, and its second of the day.
+// The calls on any index of a plan: its point, its slot on an axis, and its second of the day.
 use calls::Jumped;
 use calls::SecondOfDay;
+use calls::Slotted;
 use plan::refusal;
 use state::Sampler;
 ghost use mathlib.Core.Path.{_≡_};
-ghost use Prim.Native.Nat.{_*_, _/_, _^_, _<_};
-ghost use Rattle.calls.specs.Calls.{jumpSpec, jumpBuf, secondSpec};
+ghost use Prim.Native.Nat.{_*_, _/_, _^_, _<_, _≤_};
+ghost use Rattle.calls.specs.Calls.{jumpSpec, jumpBuf, slotted, hasSlots, slotSpec, secondSpec};
 
 // Writes the point of any index to the front of `out`.
 pub fn jump(s: Sampler, n: u64, out: &mut [u64]) -> Jumped
@@ -42,17 +43,40 @@ pub fn jump(s: Sampler, n: u64, out: &mut [u64]) -> Jumped
     Jumped { code: 0 }
 }
 
-// The second in which the fraction `x / d` of the day falls.
-fn second_of(x: u64, d: u64) -> u64
-    requires { ⌜ (x < d) × (d < 2 ^ 40) ⌝ }
-    ensures { λ r. ⌜ r ≡ x * 86400 / d ⌝ }
+// Whether a plan of so many axes has the axis, the first being axis 1, and the slot count is from 1 to 2^24.
+fn has_slots(axes: usize, axis: u64, slots: u64) -> bool
+    ensures { λ r. ⌜ r ≡ hasSlots axes axis slots ⌝ }
 {
-    x * 86400 / d
+    if axis < 1 {
+        return false;
+    }
+    if (axes as u64) < axis {
+        return false;
+    }
+    if slots < 1 {
+        return false;
+    }
+    slots <= 16777216
 }
 
-// The second of the day of any index: the whole part of axis 1's fraction × 86,400.
-pub fn second(s: Sampler, n: u64) -> SecondOfDay
-    ensures { λ r. ⌜ r ≡ secondSpec s n ⌝ }
+// The slot in which the fraction `x / d` falls. A numerator below 2^40 times 2^24 fits a word.
+fn slot_of(x: u64, d: u64, slots: u64) -> u64
+    requires { ⌜ (x < d) × (d < 2 ^ 40) × (slots ≤ 2 ^ 24) ⌝ }
+    ensures { λ r. ⌜ r ≡ x * slots / d ⌝ }
+{
+    x * slots / d
+}
+
+// A call that is turned down: its number, and no slot.
+fn no_slot(code: u64) -> Slotted
+    ensures { λ r. ⌜ r ≡ slotted code 0 ⌝ }
+{
+    Slotted { code, slot: 0 }
+}
+
+// The slot of any index on an axis, from 1: the whole part of the axis's fraction × slots.
+pub fn slot(s: Sampler, n: u64, axis: u64, slots: u64) -> Slotted
+    ensures { λ r. ⌜ r ≡ slotSpec s n axis slots ⌝ }
 {
     if !genuine::is_genuine(
         s.family,
@@ -65,21 +89,30 @@ pub fn second(s: Sampler, n: u64) -> SecondOfDay
         s.taken,
         &s.numerators,
     ) {
-        return SecondOfDay {
-            code: refusal::INVALID_STATE,
-            second: 0,
-        };
+        return no_slot(refusal::INVALID_STATE);
     }
-    if numbers::INDEXES <= n {
-        return SecondOfDay {
-            code: refusal::OUT_OF_RANGE,
-            second: 0,
-        };
+    if n >= numbers::INDEXES {
+        return no_slot(refusal::OUT_OF_RANGE);
     }
-    let x = points::numerator(s.family, &s.bases, &s.directions, n, 0);
-    let d = points::denominator(s.family, &s.bases, 0);
-    SecondOfDay {
+    if !has_slots(s.axes, axis, slots) {
+        return no_slot(refusal::BAD_SLOTS);
+    }
+    let i = axis as usize - 1;
+    let x = points::numerator(s.family, &s.bases, &s.directions, n, i);
+    let d = points::denominator(s.family, &s.bases, i);
+    Slotted {
         code: 0,
-        second: second_of(x, d),
+        slot: slot_of(x, d, slots),
+    }
+}
+
+// The second of the day of any index: its slot of 86,400 on axis 1.
+pub fn second(s: Sampler, n: u64) -> SecondOfDay
+    ensures { λ r. ⌜ r ≡ secondSpec s n ⌝ }
+{
+    let r = slot(s, n, 1, 86400);
+    SecondOfDay {
+        code: r.code,
+        second: r.slot,
     }
 }

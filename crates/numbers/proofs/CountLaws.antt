@@ -1,13 +1,13 @@
--- How many numbers pass a test: equal tests count alike, a split test adds up, a run may be cut in two, a limit takes the first ones. Assumes
--- nothing.
+-- How many numbers pass a test: equal tests count alike, a split test adds up, a run may be cut in two, a limit takes the first ones, and a test
+-- with a period may begin anywhere. Assumes nothing.
 use mathlib.Core.Path.{_≡_, refl, sym, ap, ap₂, _∙_}
 use mathlib.Core.Logic.{_⊎_, inl, inr}
 use mathlib.Core.Bool.{Bool, true, false, _&&_}
 use Prim.Native.Nat.{ℕ, zero, suc, _+_, _-_, _<_, _≤_}
-use native.Mathlib.Nat.{add-zero, add-suc, add-assoc, add-sub-of-le, le-add-right}
+use native.Mathlib.Nat.{add-zero, add-suc, add-assoc, add-sub-of-le, le-add-right, le-of-suc-le-suc, eq-or-lt-of-le}
 use native.Mathlib.Omega.{arith}
-use lib.Dec.{T, ltb}
-use borrow.Author.Tests.{lt-ltb, le-ltb}
+use lib.Dec.{T, ltb, eqb}
+use borrow.Author.Tests.{lt-ltb, le-ltb, eq-eqb, ne-eqb}
 use Rattle.numbers.specs.Count.{bit, count}
 
 pub count-ext : (p q : ℕ → Bool) (n : ℕ) → ((i : ℕ) → i < n → p i ≡ q i) → count p n ≡ count q n
@@ -67,3 +67,25 @@ count-first p q m n h same =
 
     above : (i : ℕ) → p (m + i) ≡ false
     above i = same (m + i) ∙ rw (le-ltb (m + i) m (le-add-right m i)) refl
+
+-- one number below n is a
+pub count-value : (a n : ℕ) → a < n → count (λ i. eqb i a) n ≡ 1
+unfolding count
+count-value a zero l = absurd (omega arith)
+count-value a (suc n) l = go (eq-or-lt-of-le (le-of-suc-le-suc l)) (count-value a n)
+  where
+    go : (a ≡ n) ⊎ (a < n) → (a < n → count (λ i. eqb i a) n ≡ 1) → count (λ i. eqb i a) n + bit (eqb n a) ≡ 1
+    go (inl e) again =
+        rw (
+          eq-eqb n a (sym e),
+          count-ext (λ i. eqb i a) (λ i. false) n (λ i h. ne-eqb i a (λ d. omega arith)),
+          count-none (λ i. false) n (λ i. refl),
+        ) refl
+    go (inr h) again = rw (again h, ne-eqb n a (λ d. omega arith)) refl
+
+-- a test with the period n passes as many of any n numbers in a row
+pub count-turn : (p : ℕ → Bool) (n : ℕ) → ((i : ℕ) → p (n + i) ≡ p i) → (a : ℕ) → count (λ i. p (a + i)) n ≡ count p n
+count-turn p n period a = omega (arith, count-parts p a n, count-parts p n a, ap (count p) {x = a + n} {y = n + a} (omega arith), again)
+  where
+    again : count (λ i. p (n + i)) a ≡ count p a
+    again = count-ext (λ i. p (n + i)) p a (λ i h. period i)

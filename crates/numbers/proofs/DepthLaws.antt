@@ -32,6 +32,13 @@ depth-pos b l = ⊎-elim (λ p. p) (λ p. absurd (none p)) (lt-or-ge 0 (depth b)
     none : depth b ≤ 0 → ⊥
     none p = omega (arith, depth-reaches b l, pow-up-to b {j = depth b} {k = 0} (omega arith) p, pow-zero b)
 
+-- a power of at most 2 ^ 32 is not past the depth
+pub depth-within : (b k : ℕ) → 2 ≤ b → b ^ k ≤ 2 ^ 32 → k ≤ depth b
+depth-within b k l h = ⊎-elim (λ p. absurd (past p)) (λ p. p) (lt-or-ge (depth b) k)
+  where
+    past : depth b < k → ⊥
+    past p = omega (arith, pow-up-to b {j = depth b + 1} {k = k} (omega arith) (omega arith), pow-one-more b (depth b), mul-le-mul (depth-reaches b l) l)
+
 -- one digit fewer does not reach
 depth-short : (b : ℕ) → 2 ≤ b → b ^ (depth b - 1) < 2 ^ 32
 depth-short b l =

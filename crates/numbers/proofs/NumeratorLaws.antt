@@ -2,10 +2,10 @@
 -- Assumes nothing.
 use mathlib.Core.Path.{_≡_, refl, sym, ap, ap₂, _∙_}
 use Prim.Native.Nat.{ℕ, zero, suc, _+_, _-_, _*_, _/_, _%_, _^_, _<_}
-use native.Mathlib.Nat.{pow-zero, mod-lt, mul-assoc, mul-comm, mul-one, add-mul, add-assoc, zero-mul, zero-mod, zero-div, div-div-eq-div-mul, mul-add-mod-self-right, mul-add-div-right}
+use native.Mathlib.Nat.{pow-zero, mod-lt, add-zero, div-one, mul-assoc, mul-comm, mul-one, add-mul, add-assoc, zero-mul, zero-mod, zero-div, div-div-eq-div-mul, mul-add-mod-self-right, mul-add-div-right}
 use native.Mathlib.Numerals.{suc-eq-add-one}
 use native.Mathlib.Omega.{arith}
-use lib.Arith.{digits-lt}
+use lib.Arith.{digits-lt, digits-div}
 use Rattle.numbers.specs.Digits.{digit, sum, term, numeratorTo}
 use Rattle.numbers.proofs.DigitLaws.{pow-one-more, quotient-none, sum-ext, sum-times, sum-one-more}
 
@@ -71,6 +71,15 @@ module _ (σ : ℕ → ℕ) (b : ℕ) where
     numerator-lt zero n = rw pow-zero (unfold numeratorTo sum in omega arith)
     numerator-lt (suc k) n =
         rw (suc-eq-add-one k, numerator-last k n, pow-one-more b k) (digits-lt (numerator-lt k n) (digit-image-below n k))
+
+    -- its first k digits are the numerator of k digits
+    pub numerator-first-digits : (k e n : ℕ) → numeratorTo σ b (k + e) n / b ^ e ≡ numeratorTo σ b k n
+    numerator-first-digits k zero n = rw (add-zero, pow-zero) (div-one (numeratorTo σ b k n))
+    numerator-first-digits k (suc e) n =
+        rw (suc-eq-add-one e, ← add-assoc k e 1, numerator-last (k + e) n, pow-one-more b e, mul-comm (b ^ e) b)
+        (sym (div-div-eq-div-mul _ b (b ^ e))
+        ∙ ap (λ (x : ℕ). x / b ^ e) (digits-div (numeratorTo σ b (k + e) n) (digit-image-below n (k + e)))
+        ∙ numerator-first-digits k e n)
 
   -- ---- a numerator of k digits looks at k digits only
 

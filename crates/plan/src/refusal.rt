@@ -1,4 +1,4 @@
-// The numbers of the refusals. Each comment has the trade's word of 01-scope.md.
+// The numbers of the refusals. Each comment has the trade's word of 01-scope.md, and from 16 on of 02-change-requests.md.
 
 // short: the bytes end before a field's last bit
 pub const TRUNCATED: u64 = 1;
@@ -20,7 +20,7 @@ pub const EVEN_NUMBER: u64 = 8;
 pub const REPEATED_POLYNOMIAL: u64 = 9;
 // tail: a filling bit is 1, or a byte follows
 pub const TRAILING_DATA: u64 = 10;
-// range: index of a jump, second or C point at or above 2^32; a run's start + count above 2^32
+// range: index of a jump, second, slot or C point at or above 2^32; a run's start + count above 2^32
 pub const OUT_OF_RANGE: u64 = 11;
 // spent: no point left
 pub const EXHAUSTED: u64 = 12;
@@ -30,3 +30,5 @@ pub const BUFFER_TOO_SMALL: u64 = 13;
 pub const BAD_WINDOW: u64 = 14;
 // foreign: a state that no accepted reading, with any accepted openings, steps and blocks after it, leaves
 pub const INVALID_STATE: u64 = 15;
+// slots: a slot count outside 1 to 2^24, or an axis that the plan lacks
+pub const BAD_SLOTS: u64 = 16;
