@@ -1,5 +1,5 @@
-"""Compares the console's answers with the reference's, on the stored tests, on random scripts, on counts by strips over long runs and on short
-buffers at the end of a run, and tries how its input and output end.
+"""Compares the console's answers with the reference's, on the stored tests, on random scripts, on counts by strips over long runs, on short
+buffers at the end of a run and on slots of indexes in a row, and tries how its input and output end.
 
 Usage: compare_console.py CONSOLE SEED."""
 import random
@@ -18,6 +18,7 @@ from reference import HALTON, PERMUTED
 SCRIPTS = 1000
 LONG_RUNS = 60
 SHORT_RUNS = 60
+ROWS = 60
 
 
 def run(program, script):
@@ -96,6 +97,23 @@ def short_buffers(program, rng):
         compare(f"short buffers {turn}", script, answers, console.answers(script).split("\n"))
 
 
+def shares(program, rng):
+    """Over b^k indexes in a row every slot of an axis of base b comes up equally often, where their number divides b^k."""
+    for turn in range(ROWS):
+        plan = plans.random_plan(rng, rng.choice((HALTON, PERMUTED)))
+        axis = rng.randint(1, len(plan.axes))
+        base = plan.axes[axis - 1]
+        size = base ** rng.randint(1, reference.digit_count(base, 2000 // base))
+        slots = rng.choice([n for n in range(1, size + 1) if size % n == 0])
+        first = rng.choice((0, rng.randint(0, 2**32 - size), 2**32 - size))
+        lines = [f"read {plans.bytes_of(plan).hex()}"] + [f"slot {first + t} {axis} {slots}" for t in range(size)]
+        script = "\n".join(lines).encode()
+        answers = run(program, script)
+        compare(f"row {turn}", script, answers, console.answers(script).split("\n"))
+        if Counter(answers[1:-1]) != {f"slot 0 {slot}": size // slots for slot in range(slots)}:
+            sys.exit(f"row {turn}: {size} indexes from {first} on are not shared evenly by {slots} slots of base {base}")
+
+
 def random_scripts(program, rng):
     """Scripts of ten parts each; how often each call gave each code."""
     met = Counter()
@@ -136,6 +154,7 @@ def main():
     ends(program)
     strips(program, random.Random(seed))
     short_buffers(program, random.Random(seed))
+    shares(program, random.Random(seed))
     met = random_scripts(program, random.Random(seed))
     for name, codes in EVERY.items():
         for code in codes:
@@ -144,6 +163,7 @@ def main():
     print(f"console: {sum(met.values())} answers of {SCRIPTS} random scripts are the reference's, {met['lines in error']} of them of lines in error")
     print(f"console: so are the counts by strips over {LONG_RUNS} long runs")
     print(f"console: and short buffers at the end of {SHORT_RUNS} runs and day sets are refused by 13")
+    print(f"console: and slots share {ROWS} rows of indexes evenly")
 
 
 main()
