@@ -1,6 +1,6 @@
 /*
- * A street collector's main loop: one point an index, which says when to wake and which meter to call on which channel: one plan and three numbers
- * of slots. The loop takes nothing from the heap and keeps nothing but the index.
+ * A street collector's main loop: each index's point says when to wake and which meter to call on which channel, by one plan and three slot counts.
+ * The loop takes nothing from the heap and keeps nothing but the index.
  *
  *   collector START COUNT [SECONDS]
  *

@@ -58,8 +58,8 @@ extern "C" {
 #endif
 
 /*
- * The answers. The numbers 12 (a run has no point left), 15 (a state that no call has left) and 16 (no such slots) belong to the calls on a state,
- * which hosts do not have.
+ * The answers. The numbers 12 (a run has no point left), 15 (a state that no call has left) and 16 (a slot count or an axis that is out of range)
+ * belong to the calls on a state, which hosts do not have.
  */
 enum hisowake_code {
     HISOWAKE_OK = 0,
@@ -85,8 +85,8 @@ enum hisowake_code {
  *
  * Writes the numerator of each axis, axis after axis: 8 bytes an axis, most significant first, so 8 to 48 bytes in all. The denominators are
  * the plan's: b^k for a Halton axis of base b, with the least k for which b^k is 2^32 or more, and 2^32 for a Sobol axis. They need no call:
- * examples/denominators.h has this rule as code. The slot of a point on an axis, of up to 2^24 equal ones, is the whole part of
- * numerator x slots / denominator, which 64 bits hold: examples/collector.c picks a second, a meter and a channel so.
+ * examples/denominators.h has this rule as code. An axis may be divided into up to 2^24 equal slots: a point's slot is the whole part of
+ * numerator x slots / denominator, and 64 bits hold the product. examples/collector.c picks a second, a meter and a channel so.
  *
  *   plan, plan_len   the plan, at most HISOWAKE_PLAN_MAX bytes
  *   index            any number; 11 from 2^32 up

@@ -128,13 +128,14 @@ impl Plan {
     /// # Ok::<(), Refusal>(())
     /// ```
     ///
-    /// A point's slot on an axis, of up to 2^24 equal ones, is the whole part of its fraction times their number:
+    /// An axis may be divided into up to 2^24 equal slots, and a point's slot is the whole part of its fraction times their number:
     ///
     /// ```
     /// # use hisowake::{Plan, Refusal};
     /// # let plan = Plan::read(&[0x10, 0x08, 0x10])?;
-    /// let slots: Vec<Option<u64>> = (0..2).map(|axis| Some(plan.point(6).ok()?[axis] * 90000 / plan.denominator(axis)?)).collect();
-    /// assert_eq!(slots, [Some(33750), Some(20000)]); // of a day of 90,000 seconds: 3/8 and 2/9
+    /// let slot = |axis: usize, slots: u64| Some(plan.point(6).ok()?[axis] * slots / plan.denominator(axis)?);
+    /// assert_eq!(slot(0, 90000), Some(33750)); // the second, at 3/8 of a day of 90,000
+    /// assert_eq!(slot(1, 250), Some(55)); // the meter, at 2/9 of 250
     /// # Ok::<(), Refusal>(())
     /// ```
     #[must_use]

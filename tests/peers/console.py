@@ -129,23 +129,26 @@ def make_day_set(console, words):
     return [code]
 
 
-def slot_answer(console, index, axis, slots):
-    def slot_of():
+def of_index(console, index, answer):
+    """What is answered for an index of the state's plan: a refusal's number or 0, and a number."""
+
+    def answered():
         plan = Run(console.held[Run]).plan
         reference.refuse_if(index >= INDEXES, 11)
-        return reference.slot(plan, index, axis, slots)
+        return answer(plan)
 
-    code, answer = refusable(slot_of)
-    return [code, answer or 0]
+    code, number = refusable(answered)
+    return [code, number or 0]
 
 
 def second(console, words):
     (index,) = numbers(words, "second INDEX", 1)
-    return slot_answer(console, index, 1, 86400)
+    return of_index(console, index, lambda plan: reference.second(plan, index))
 
 
 def slot(console, words):
-    return slot_answer(console, *numbers(words, "slot INDEX AXIS SLOTS", 3))
+    index, axis, slots = numbers(words, "slot INDEX AXIS SLOTS", 3)
+    return of_index(console, index, lambda plan: reference.slot(plan, index, axis, slots))
 
 
 # ---- the calls on what the console holds: its state's run or its day set

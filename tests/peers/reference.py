@@ -171,6 +171,11 @@ def point(plan, index):
     return tuple(halton_numerator(base, index, images(plan.family, base)) for base in plan.axes)
 
 
+def second(plan, index):
+    """The second of the day, by the scope's words: the whole part of the first axis's fraction x 86,400."""
+    return point(plan, index)[0] * 86400 // denominators(plan)[0]
+
+
 def slot(plan, index, axis, slots):
     """The whole part of the axis's fraction x slots, axes being counted from 1."""
     refuse_if(not 1 <= axis <= len(plan.axes) or not 1 <= slots <= 2**24, 16)

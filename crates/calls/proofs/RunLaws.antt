@@ -17,9 +17,9 @@ use Rattle.points.proofs.RunLaws.{range-is, run-point, run-point-length}
 use Rattle.state.specs.State.{made, genuine}
 use Rattle.state.proofs.PlanLaws.{plan-in-made}
 use Rattle.state.proofs.GenuineLaws.{made-genuine}
-use Rattle.calls.specs.Calls.{moved, blocked, openSpec, jumpSpec, jumpBuf, runRefusals, stepSpec, stepBuf, blockSpec, blockBuf, secondSpec}
+use Rattle.calls.specs.Calls.{moved, blocked, slotted, openSpec, jumpSpec, jumpBuf, runRefusals, stepSpec, stepBuf, blockSpec, blockBuf, secondSpec, hasSlots, slotSpec}
 use Rattle.calls.specs.Steps.{stepsPoints, stepsState}
-use Rattle.calls.proofs.CaseLaws.{open-done, jump-done, run-spent, run-clear, step-refused, step-done, block-refused, block-done, second-done}
+use Rattle.calls.proofs.CaseLaws.{open-done, jump-done, run-spent, run-clear, step-refused, step-done, block-refused, block-done, second-done, slot-done}
 
 module _ (p : Plan) (v : Valid p) (r : Run) (fits : inRange r ≡ true) where
   is-genuine : (taken : ℕ) → taken ≤ r .count → genuine (made p r taken) ≡ true
@@ -77,6 +77,12 @@ module _ (p : Plan) (v : Valid p) (r : Run) (fits : inRange r ≡ true) where
       → secondSpec (made p r taken) n ≡ record { code = 0; second = numeratorOf p n 0 * 86400 / denominatorOf p 0 }
   unfolding slotOf
   second-at taken h n l = rw (plan-in-made p v r taken) at (second-done (made p r taken) n (is-genuine taken h) l)
+
+  pub slot-at : (taken : ℕ) → taken ≤ r .count → (n : ℕ) → n < 2 ^ 32 → (axis slots : ℕ) → hasSlots (axisCount p) axis slots ≡ true
+      → slotSpec (made p r taken) n axis slots ≡ slotted 0 (numeratorOf p n (axis - 1) * slots / denominatorOf p (axis - 1))
+  unfolding slotOf made
+  slot-at taken h n l axis slots takes =
+      rw (plan-in-made p v r taken) at (slot-done (made p r taken) n axis slots (is-genuine taken h) l takes)
 
   -- an opening replaces the run
   pub open-at : (taken : ℕ) → taken ≤ r .count → (next : Run) → inRange next ≡ true → openSpec (made p r taken) next ≡ moved 0 (made p next 0)

@@ -7,7 +7,6 @@ use Prim.Native.Nat.{ℕ, _+_, _-_, _*_, _/_, _^_, _≤_, _<_, _∣_}
 use native.Mathlib.Nat.{mul-lt-mul-of-pos-right, div-lt-iff-lt-mul, mul-div-cancel'}
 use native.Mathlib.Omega.{arith}
 use lib.Dec.{eqb}
-use lib.ListN.{getD}
 use Rattle.numbers.specs.Count.{count}
 use Rattle.numbers.specs.Digits.{numeratorTo}
 use Rattle.numbers.specs.Depth.{depth, denominator}
@@ -23,7 +22,7 @@ use Rattle.points.proofs.ArrayLaws.{numerator-by-base, denominator-by-base, bas
 use Rattle.state.specs.State.{planIn, genuine}
 use Rattle.state.specs.declared.Sampler.{Sampler}
 use Rattle.calls.specs.Calls.{slotted, hasSlots, secondSpec, slotSpec}
-use Rattle.calls.specs.Slots.{isSlot, SharedEvenly}
+use Rattle.calls.specs.Slots.{baseOfAxis, isSlot, SharedEvenly}
 use Rattle.calls.specs.declared.Slotted.{Slotted}
 use Rattle.calls.proofs.CaseLaws.{second-foreign, second-out, second-done, slots-range, slots-taken, slot-foreign, slot-accepted, slot-out, slot-done}
 use Rattle.calls.proofs.PointLaws.{axes-few, known-arrays, known-numerator, known-denominator, fraction-small}
@@ -31,7 +30,7 @@ use Rattle.calls.proofs.PointLaws.{axes-few, known-arrays, known-numera
 -- ---- the second of the day
 
 module _ (s : Sampler) (n : ℕ) where
-  -- Whatever the state and the index: the second is slot of 86,400 on axis 1.
+  -- Whatever the state and the index: the second is the slot of 86,400 on axis 1.
   pub second-is-slot : secondSpec s n ≡ record { code = slotSpec s n 1 86400 .code; second = slotSpec s n 1 86400 .slot }
   second-is-slot = go (true-or-false (genuine s)) (lt-or-ge n (2 ^ 32))
     where
@@ -77,9 +76,8 @@ module _ (s : Sampler) (axis slots first : ℕ) (z : slotSpec s first axis slots
   has : axis - 1 < s .axes
   has = omega (arith, slots-range (s .axes) axis slots takes)
 
-  -- the base of the axis
   abbrev base : ℕ
-  base = getD (s .bases) (axis - 1) 0
+  base = baseOfAxis s axis
 
   by-base : (n : ℕ) → slotOf (planIn s) slots n (axis - 1) ≡ numerator (imageOf (s .family) base) base n * slots / denominator base
   unfolding slotOf
@@ -92,9 +90,9 @@ module _ (s : Sampler) (axis slots first : ℕ) (z : slotSpec s first axis slots
       ) refl
 
   -- Of any b^k indexes in a row below 2^32, b the base of the axis, each slot has its share, where the slot count divides b^k.
-  pub slots-shared : (k : ℕ) → slots ∣ getD (s .bases) (axis - 1) 0 ^ k → first + getD (s .bases) (axis - 1) 0 ^ k ≤ 2 ^ 32
-      → SharedEvenly s axis slots first (getD (s .bases) (axis - 1) 0 ^ k)
-  slots-shared k d h = record { answered = λ t l. ap (λ (r : Slotted). r .code) (answer t l); share = share }
+  pub shares-answered : (k : ℕ) → slots ∣ baseOfAxis s axis ^ k → first + baseOfAxis s axis ^ k ≤ 2 ^ 32
+      → SharedEvenly s axis slots first (baseOfAxis s axis ^ k)
+  shares-answered k d h = record { answered = λ t l. ap (λ (r : Slotted). r .code) (answer t l); share = share }
     where
       answer : (t : ℕ) → t < base ^ k
           → slotSpec s (first + t) axis slots ≡ slotted 0 (slotOf (planIn s) slots (first + t) (axis - 1))

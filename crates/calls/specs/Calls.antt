@@ -1,6 +1,6 @@
 -- What each call answers, for all inputs, and what each lent word then holds (01-scope.md, "Runs and windows" and "When a call is turned
--- down"). A call's refusals stand in the papers' order: 01's, and of steps and blocks that of 02's K3. A refusal answers its number and zero for every
--- other number, the state as given (a refused reading: the blank state), and changes no lent word. Definitions only.
+-- down"). A call's refusals stand in the papers' order: 01's, and 02's for steps and blocks (K3) and for slots (K4). A refusal answers its number and
+-- zero for every other number, the state as given (a refused reading: the blank state), and changes no lent word. Definitions only.
 use mathlib.Core.Bool.{Bool, not, _&&_}
 use mathlib.Core.List.{List, [], _∷_, _++_}
 use Prim.Native.Nat.{ℕ, _+_, _-_, _*_, _/_, _^_, min}
@@ -49,6 +49,18 @@ noPointRoom s buf = ltb (length buf) (s .axes)
 
 abbrev pub noPlanRoom : Sampler → List ℕ → Bool
 noPlanRoom s buf = ltb (length buf) (length (spell (planIn s)))
+
+-- a number from 1 to `most`
+abbrev pub isFromOne : ℕ → ℕ → Bool
+isFromOne most n = leb 1 n && leb n most
+
+-- the plan has the axis, the first being axis 1, and the slot count is from 1 to 2^24
+unfoldable pub hasSlots : ℕ → ℕ → ℕ → Bool
+hasSlots axes axis slots = isFromOne axes axis && isFromOne (2 ^ 24) slots
+
+-- 16, slots: a slot count outside its range, or an axis that the plan lacks (02-change-requests.md, K4)
+abbrev pub noSlots : Sampler → ℕ → ℕ → Bool
+noSlots s axis slots = not (hasSlots (s .axes) axis slots)
 
 -- ---- the orders that a run's calls share with their twins of a day set (02-change-requests.md, K1)
 
@@ -170,19 +182,10 @@ secondSpec s n = record {
   second = unlessDue (secondRefusals s n) (slotOf (planIn s) 86400 n 0) 0;
 }
 
--- ---- slot (02-change-requests.md, K4)
+-- ---- slot
 
--- a number from 1 to `most`
-abbrev pub isFromOne : ℕ → ℕ → Bool
-isFromOne most n = leb 1 n && leb n most
-
--- the plan has the axis, the first being axis 1, and the slot count is from 1 to 2^24
-unfoldable pub hasSlots : ℕ → ℕ → ℕ → Bool
-hasSlots axes axis slots = isFromOne axes axis && isFromOne (2 ^ 24) slots
-
--- 16, slots: a slot count outside its range, or an axis that the plan lacks
 abbrev pub slotRefusals : Sampler → ℕ → ℕ → ℕ → List Condition
-slotRefusals s n axis slots = 15 when foreign s ∷ 11 when beyond n ∷ 16 when not (hasSlots (s .axes) axis slots) ∷ []
+slotRefusals s n axis slots = 15 when foreign s ∷ 11 when beyond n ∷ 16 when noSlots s axis slots ∷ []
 
 -- the whole part of the axis's fraction × slots
 unfoldable pub slotSpec : Sampler → ℕ → ℕ → ℕ → Slotted

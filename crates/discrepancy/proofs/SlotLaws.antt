@@ -37,7 +37,7 @@ part-split x m j pos = go (lt-eq-gt (x / m) j)
     go (inr (inr l)) = rw (above (suc j) l, above j (omega arith), ne-eqb (x / m) j (λ e. omega arith)) refl
 
 module _ {M : ℕ} {π : ℕ → ℕ} (p : Permutes M π) where
-  -- each is that of one number
+  -- each number below M is the image of one
   one-image : (c : ℕ) → c < M → count (λ r. eqb (π r) c) M ≡ 1
   one-image c l = count-ext (λ r. eqb (π r) c) (λ r. eqb r (p .inverse c)) M same ∙ count-value (p .inverse c) M (p .inverse-below c l)
     where

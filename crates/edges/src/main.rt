@@ -163,8 +163,8 @@ fn seconds() {
     report(b"second of index 4294967296", b.code);
 }
 
-// What the slot call answers: the refusal's number or 0, and the slot.
-fn slot(label: &[u8], s: Sampler, index: u64, axis: u64, slots: u64) {
+// What asking for a slot answers: the refusal's number or 0, and the slot.
+fn slotting(label: &[u8], s: Sampler, index: u64, axis: u64, slots: u64) {
     let r = sampler::slot(s, index, axis, slots);
     report(label, r.code);
     report(b"  slot", r.slot);
@@ -173,24 +173,24 @@ fn slot(label: &[u8], s: Sampler, index: u64, axis: u64, slots: u64) {
 // R2's index and the last one on days of 82,800, 86,400 and 90,000 seconds.
 fn days() {
     let r = sampler::read(&[8, 8]);
-    slot(b"slot of 82800, index 6 in base 2", r.state, 6, 1, 82800);
-    slot(b"slot of 86400, index 6 in base 2", r.state, 6, 1, 86400);
-    slot(b"slot of 90000, index 6 in base 2", r.state, 6, 1, 90000);
-    slot(
+    slotting(b"slot of 82800, index 6 in base 2", r.state, 6, 1, 82800);
+    slotting(b"slot of 86400, index 6 in base 2", r.state, 6, 1, 86400);
+    slotting(b"slot of 90000, index 6 in base 2", r.state, 6, 1, 90000);
+    slotting(
         b"slot of 82800, index 4294967295",
         r.state,
         4294967295,
         1,
         82800,
     );
-    slot(
+    slotting(
         b"slot of 86400, index 4294967295",
         r.state,
         4294967295,
         1,
         86400,
     );
-    slot(
+    slotting(
         b"slot of 90000, index 4294967295",
         r.state,
         4294967295,
@@ -199,16 +199,29 @@ fn days() {
     );
 }
 
-// The ends of what the slot call takes, of two axes: slot counts from 1 to 2^24, and axes from 1.
+// The ends of what a slot is asked for, of two axes: slot counts from 1 to 2^24, and axes from 1.
 fn slot_ends(s: Sampler) {
-    slot(b"slot of 1 on axis 1", s, 4294967295, 1, 1);
-    slot(b"slot of 16777216 on axis 1", s, 4294967295, 1, 16777216);
-    slot(b"slot of 16777216 on axis 2", s, 4294967295, 2, 16777216);
-    slot(b"slot of 0 on axis 1", s, 0, 1, 0);
-    slot(b"slot of 16777217 on axis 1", s, 0, 1, 16777217);
-    slot(b"slot of 86400 on axis 0", s, 0, 0, 86400);
-    slot(b"slot of 86400 on axis 3", s, 0, 3, 86400);
-    slot(
+    let last = 4294967295;
+    slotting(b"slot of 1 on axis 1, index 4294967295", s, last, 1, 1);
+    slotting(
+        b"slot of 16777216 on axis 1, index 4294967295",
+        s,
+        last,
+        1,
+        16777216,
+    );
+    slotting(
+        b"slot of 16777216 on axis 2, index 4294967295",
+        s,
+        last,
+        2,
+        16777216,
+    );
+    slotting(b"slot of 0 on axis 1, index 0", s, 0, 1, 0);
+    slotting(b"slot of 16777217 on axis 1, index 0", s, 0, 1, 16777217);
+    slotting(b"slot of 86400 on axis 0, index 0", s, 0, 0, 86400);
+    slotting(b"slot of 86400 on axis 3, index 0", s, 0, 3, 86400);
+    slotting(
         b"slot of 0 on axis 0, index 4294967296",
         s,
         4294967296,
@@ -225,6 +238,13 @@ fn blank_state() {
     let mut point = [0u64; 1];
     let j = sampler::jump(r.state, 0, &mut point);
     report(b"jump on the blank state", j.code);
+    slotting(
+        b"slot of 0 on axis 0, index 4294967296, on the blank state",
+        r.state,
+        4294967296,
+        0,
+        0,
+    );
 }
 
 // What making a day set answers.

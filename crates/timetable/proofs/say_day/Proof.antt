@@ -6,10 +6,10 @@ use Rattle.timetable.proofs.say_day.Statement.{statement}
 use Rattle.timetable.proofs.say_day.Tie as tie
 
 abbrev Inv-loop : tie.InvT-loop
-Inv-loop s seconds p index₀ index = index ≤ 8
+Inv-loop s seconds c index₀ index = index ≤ 8
 
 abbrev μ-loop : tie.MeasureT-loop
-μ-loop s seconds p index₀ index = 8 - index
+μ-loop s seconds c index₀ index = 8 - index
 
 slice-aggregate-say : tie.Need-slice-aggregate-say Inv-loop μ-loop
 slice-aggregate-say c = search needs
