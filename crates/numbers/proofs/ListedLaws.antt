@@ -1,9 +1,9 @@
 -- Runs of values, lists that begin with them, and zeros after them: lengths and entries, and what one more store makes of them. Assumes nothing.
 use mathlib.Core.Path.{_≡_, refl, sym, ap, ap₂, _∙_}
-use mathlib.Core.List.{List, [], _∷_, _++_}
+use mathlib.Core.List.{List, [], _∷_, _++_, map, map-append, append-assoc, append-nil}
 use mathlib.Core.Logic.{⊎-elim}
 use Prim.Native.Nat.{ℕ, zero, suc, _+_, _-_, _<_, _≤_}
-use native.Mathlib.Nat.{sub-zero}
+use native.Mathlib.Nat.{add-zero, add-suc, sub-zero}
 use native.Mathlib.Omega.{arith}
 use native.Mathlib.Numerals.{add-one}
 use lib.ListN.{length, getD, take, set, replicate, length-append, length-set, length-replicate, getD-replicate, List·getD-append, List·getD-eq-default}
@@ -37,6 +37,19 @@ unfolding listed
 listed-same f g zero h = refl
 listed-same f g (suc m) h =
     ap₂ (λ (l : List ℕ) (x : ℕ). l ++ (x ∷ [])) (listed-same f g m (λ i l. h i (omega arith))) (h m (omega arith))
+
+-- a run in two parts
+pub listed-parts : (f : ℕ → ℕ) (m n : ℕ) → listed f (m + n) ≡ listed f m ++ listed (λ i. f (m + i)) n
+unfolding listed
+listed-parts f m zero = ap (listed f) (add-zero m) ∙ sym (append-nil (listed f m))
+listed-parts f m (suc n) =
+    rw (add-suc, listed-parts f m n) (append-assoc (listed f m) (listed (λ i. f (m + i)) n) (f (m + n) ∷ []))
+
+pub listed-map : (g f : ℕ → ℕ) (n : ℕ) → listed (λ i. g (f i)) n ≡ map g (listed f n)
+unfolding listed
+listed-map g f zero = refl
+listed-map g f (suc n) =
+    ap (λ (l : List ℕ). l ++ (g (f n) ∷ [])) (listed-map g f n) ∙ sym (map-append g (listed f n) (f n ∷ []))
 
 -- ---- a list that begins with a run
 

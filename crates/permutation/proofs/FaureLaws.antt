@@ -1,74 +1,16 @@
 -- Faure's permutation is one, with 0 first, in every base from 2 up: each rule makes a permutation of a permutation, and the base falls.
 -- Assumes nothing.
 use mathlib.Core.Path.{_≡_, refl, sym, ap, _∙_, subst}
-use mathlib.Core.Bool.{cond}
 use mathlib.Core.Logic.{⊎-elim}
 use Prim.Native.Nat.{ℕ, zero, suc, _+_, _-_, _*_, _/_, _%_, _<_, _≤_}
 use native.Mathlib.Nat.{le-refl}
 use native.Mathlib.Omega.{arith}
-use lib.Dec.{eqb}
-use borrow.Author.Tests.{eq-eqb, ne-eqb}
 use Rattle.numbers.proofs.Cases.{lt-or-ge, eq-or-ne, even-or-odd}
 use Rattle.permutation.specs.Permutes.{Permutes}
-use Rattle.permutation.specs.Faure.{evenRule, closeGap, openGap, oddRule, faureIn, faure}
+use Rattle.permutation.specs.Faure.{closeGap, openGap, evenRule, oddRule, faureIn, faure}
 use Rattle.permutation.proofs.PermutationLaws.{identity-permutes, permutes-same}
-use Rattle.permutation.proofs.FaureRules.{even-low, even-high, odd-centre, odd-aside, cond-low, cond-high, faure-two, faure-even, faure-odd}
-
--- ---- the even rule
-
--- what undoes it: the lowest bit says the half
-evenInverse : (ℕ → ℕ) → ℕ → ℕ → ℕ
-evenInverse τ h r = cond (eqb (r % 2) 0) (τ (r / 2)) (h + τ (r / 2))
-
-inverse-even : (τ : ℕ → ℕ) (h r : ℕ) → r % 2 ≡ 0 → evenInverse τ h r ≡ τ (r / 2)
-unfolding evenInverse
-inverse-even τ h r e = rw (eq-eqb (r % 2) 0 e)
-
-inverse-odd : (τ : ℕ → ℕ) (h r : ℕ) → r % 2 ≡ 1 → evenInverse τ h r ≡ h + τ (r / 2)
-unfolding evenInverse
-inverse-odd τ h r e = rw (ne-eqb (r % 2) 0 (omega arith))
-
-module _ {σ : ℕ → ℕ} {h : ℕ} (p : Permutes h σ) where
-  even-below : (k : ℕ) → k < 2 * h → evenRule σ h k < 2 * h
-  even-below k l =
-      ⊎-elim (λ a. rw (even-low σ h k a) (omega (arith, p .below k a)))
-      (λ a. rw (even-high σ h k a) (omega (arith, p .below (k - h) (omega arith)))) (lt-or-ge k h)
-
-  inverse-below : (r : ℕ) → r < 2 * h → evenInverse (p .inverse) h r < 2 * h
-  inverse-below r l =
-      ⊎-elim (λ e. rw (inverse-even (p .inverse) h r e) (omega (arith, p .inverse-below (r / 2) (omega arith))))
-      (λ e. rw (inverse-odd (p .inverse) h r e) (omega (arith, p .inverse-below (r / 2) (omega arith)))) (even-or-odd r)
-
-  even-back : (k : ℕ) → k < 2 * h → evenInverse (p .inverse) h (evenRule σ h k) ≡ k
-  even-back k l =
-      ⊎-elim
-      (λ a. rw (even-low σ h k a, inverse-even (p .inverse) h (2 * σ k) (omega arith))
-      (ap (p .inverse) {x = 2 * σ k / 2} {y = σ k} (omega arith) ∙ p .back k a))
-      (λ a. rw (even-high σ h k a, inverse-odd (p .inverse) h (2 * σ (k - h) + 1) (omega arith))
-      (ap (λ (x : ℕ). h + p .inverse x) {x = (2 * σ (k - h) + 1) / 2} {y = σ (k - h)} (omega arith)
-      ∙ omega (arith, p .back (k - h) (omega arith))))
-      (lt-or-ge k h)
-
-  even-onto : (r : ℕ) → r < 2 * h → evenRule σ h (evenInverse (p .inverse) h r) ≡ r
-  even-onto r l =
-      let l2 : r / 2 < h = omega arith in
-      ⊎-elim
-      (λ e. rw (inverse-even (p .inverse) h r e, even-low σ h (p .inverse (r / 2)) (p .inverse-below (r / 2) l2))
-      (omega (arith, p .onto (r / 2) l2)))
-      (λ e. rw (inverse-odd (p .inverse) h r e, even-high σ h (h + p .inverse (r / 2)) (omega arith))
-      (omega (arith, ap σ {x = h + p .inverse (r / 2) - h} {y = p .inverse (r / 2)} (omega arith), p .onto (r / 2) l2)))
-      (even-or-odd r)
-
-  even-permutes : 0 < h → Permutes (2 * h) (evenRule σ h)
-  even-permutes l =
-      record {
-        inverse = evenInverse (p .inverse) h;
-        below = even-below;
-        inverse-below = inverse-below;
-        back = even-back;
-        onto = even-onto;
-        zero-first = even-low σ h 0 l ∙ omega (arith, p .zero-first);
-      }
+use Rattle.permutation.proofs.HalvesLaws.{halves-permute}
+use Rattle.permutation.proofs.FaureRules.{odd-centre, odd-aside, cond-low, cond-high, faure-two, faure-odd, even-lower, even-upper}
 
 -- ---- the odd rule: opening a gap at the centre and closing it undo each other
 
@@ -121,8 +63,13 @@ odd-permutes {σ} {c} p l =
 
 even-base : (b : ℕ) → 2 < b → b % 2 ≡ 0 → Permutes (b / 2) (faure (b / 2)) → Permutes b (faure b)
 even-base b l e p =
-    permutes-same (λ k. faure-even b k l e)
-    (subst (λ (n : ℕ). Permutes n (evenRule (faure (b / 2)) (b / 2))) {x = 2 * (b / 2)} {y = b} (omega arith) (even-permutes p (omega arith)))
+    let h : b / 2 ≡ (b + 1) / 2 = omega arith in
+    halves-permute
+    (record {
+      low = λ k q. even-lower b k l e (omega arith);
+      high = λ k q r. rw (← h) (even-upper b k l e (omega arith));
+    })
+    (subst (λ (n : ℕ). Permutes n (faure (b / 2))) h p) p (omega arith)
 
 odd-base : (b : ℕ) → 2 < b → b % 2 ≡ 1 → Permutes (b - 1) (faure (b - 1)) → Permutes b (faure b)
 odd-base b l e p =

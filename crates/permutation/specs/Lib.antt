@@ -1,3 +1,4 @@
 pub mod Permutes
 pub mod Faure
+pub mod Kocis
 pub mod Families

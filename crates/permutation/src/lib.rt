@@ -1,8 +1,9 @@
-// The permutations of the digits: Faure's, and what each family of plans does to a digit.
+// The permutations of the digits: Faure's, that of Kocis and Whiten, and what each family of plans does to a digit.
 ghost use mathlib.Core.Path.{_≡_};
 ghost use Prim.Native.Nat.{_-_, _%_, _<_, _≤_};
 ghost use lib.Bits.{bitAnd};
 ghost use Rattle.permutation.specs.Faure.{faure};
+ghost use Rattle.permutation.specs.Kocis.{kocis};
 ghost use Rattle.permutation.specs.Families.{imageOf};
 
 // Faure's image of the digit `k` in base `b`, a power of two: the binary digits of `k` in reverse.
@@ -71,10 +72,34 @@ pub fn faure_image(b: u64, k: u64) -> u64
     }
 }
 
+// The image of the digit `k` in base `b` under the permutation of Kocis and Whiten, by its binary digits, the lowest first: `r` has those taken so far,
+// and `h` numbers below `b` end in them, the even ones before the odd; the image is number `d` of these, from 0. `p` is 2 to the number of digits taken.
+pub fn kocis_image(b: u64, k: u64) -> u64
+    requires { ⌜ (2 ≤ b) × (b ≤ 256) × (k < b) ⌝ }
+    ensures { λ r. ⌜ r ≡ kocis b k ⌝ }
+{
+    let mut h = b;
+    let mut d = k;
+    let mut r = 0;
+    let mut p = 1;
+    while 1 < h {
+        let c = (h + 1) / 2;
+        let odd = if d < c { 0 } else { 1 };
+        d = d - odd * c;
+        r = r + odd * p;
+        h = (h + 1 - odd) / 2;
+        p = 2 * p;
+    }
+    r
+}
+
 // The image of the digit `d` in base `b`, in a plan of this family.
 pub fn image(family: u64, b: u64, d: u64) -> u64
-    requires { ⌜ (2 ≤ b) × (d < b) ⌝ }
+    requires { ⌜ (2 ≤ b) × (b ≤ 256) × (d < b) ⌝ }
     ensures { λ r. ⌜ r ≡ imageOf family b d ⌝ }
 {
-    if family == 1 { faure_image(b, d) } else { d }
+    if family == 1 {
+        return faure_image(b, d);
+    }
+    if family == 3 { kocis_image(b, d) } else { d }
 }

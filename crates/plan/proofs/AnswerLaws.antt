@@ -62,7 +62,7 @@ module _ (axes : List Axis) (v : ValidAxes axes) where
 
 pub plan-of-answer : (p : Plan) → Valid p → let a = answerOf (accepted p) in planOf (a .family) (a .axes) (a .bases) (a .polynomials) (a .ms) ≡ p
 unfolding answerOf planOf planBy Valid
-plan-of-answer (halton family bases) v = rw (ne-eqb family 2 (λ e. omega arith)) (ap (halton family) (padded-take 6 bases (length bases) refl))
+plan-of-answer (halton family bases) v = rw (ne-eqb family 2 (v .0 .1)) (ap (halton family) (padded-take 6 bases (length bases) refl))
 plan-of-answer (sobol axes) v = ap sobol (axes-back axes (v .1) (length axes) (omega arith) ∙ take-length axes)
 
 -- ---- what an answer says of the reading

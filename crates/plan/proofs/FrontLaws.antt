@@ -13,7 +13,7 @@ use Rattle.numbers.specs.Gcd.{Coprime}
 use Rattle.binary.specs.Polynomial.{Degree}
 use Rattle.sobol.specs.Directions.{OddBelow, AllOddBelow}
 use Rattle.bits.specs.Stream.{toBits}
-use Rattle.plan.specs.Plan.{Axis, noAxis, Plan, halton, sobol, ValidBases, ValidAxis, ValidAxes, OneToSix, Valid, headerBits, basesBits, msBits, axisBits, axesBits, planBits}
+use Rattle.plan.specs.Plan.{Axis, noAxis, Plan, halton, sobol, ValidBases, ValidAxis, ValidAxes, OneToSix, HaltonFamily, Valid, headerBits, basesBits, msBits, axisBits, axesBits, planBits}
 use Rattle.plan.specs.Reading.{Step, got, refuseIf, field, andThen, readBases, notPrimitive, isRepeated, readMs, readAxis, readAxes, readBody, readFields}
 use Rattle.plan.specs.Refusals.{NotAmong, ValidPolynomial}
 use Rattle.plan.proofs.PlaceLaws.{length-snoc, places-middle, pairs-middle}
@@ -95,21 +95,21 @@ axes-front k (x ∷ more) earlier l v =
 
 -- ---- the whole
 
-pub family-front : (family : ℕ) (l : List ℕ) → family < 3
+pub family-front : (family : ℕ) (l : List ℕ) → family < 4
     → readFields (toBits 2 family ++ l) ≡ field 3 l λ s t. refuseIf (eqb s 0 || eqb s 7) 3 (readBody (eqb family 2) family s t)
 unfolding readFields
-family-front family l h = field-of 2 family l _ (omega arith) ∙ passes 2 _ (ne-eqb family 3 (λ e. omega arith))
+family-front family l h = field-of 2 family l _ (omega arith)
 
-pub header-front : (family s : ℕ) (l : List ℕ) → family < 3 → OneToSix s → readFields (headerBits family s ++ l) ≡ readBody (eqb family 2) family s l
+pub header-front : (family s : ℕ) (l : List ℕ) → family < 4 → OneToSix s → readFields (headerBits family s ++ l) ≡ readBody (eqb family 2) family s l
 header-front family s l h range =
     rw append-assoc (family-front family (toBits 3 s ++ l) h ∙ field-of 3 s l _ (omega arith) ∙ passes 3 _ (axes-range-iff s (omega arith) .1 range))
 
-pub halton-front : (family s k : ℕ) (bases l : List ℕ) → family < 2 → OneToSix s → length bases + k ≡ s → ValidBases bases
+pub halton-front : (family s k : ℕ) (bases l : List ℕ) → HaltonFamily family → OneToSix s → length bases + k ≡ s → ValidBases bases
     → readFields (headerBits family s ++ basesBits bases ++ l) ≡ andThen (readBases k bases l) λ b r. got (halton family b) r
 unfolding readBody
 halton-front family s k bases l h range e v =
     rw (append-assoc (headerBits family s) (basesBits bases) l) (header-front family s (basesBits bases ++ l) (omega arith) range
-    ∙ rw (ne-eqb family 2 (λ z. omega arith)) (rw (← e) (ap (λ (t : Step (List ℕ)). andThen t λ b r. got (halton family b) r) (bases-front k bases [] l v))))
+    ∙ rw (ne-eqb family 2 (h .1)) (rw (← e) (ap (λ (t : Step (List ℕ)). andThen t λ b r. got (halton family b) r) (bases-front k bases [] l v))))
 
 pub sobol-front : (s k : ℕ) (axes : List Axis) (l : List ℕ) → OneToSix s → length axes + k ≡ s → ValidAxes axes
     → readFields (headerBits 2 s ++ axesBits axes ++ l) ≡ andThen (readAxes k axes l) λ a r. got (sobol a) r

@@ -11,7 +11,7 @@ use borrow.Author.Tests.{lt-ltb, eq-eqb, ne-eqb}
 use Rattle.bits.specs.Stream.{toBits, bitsOf}
 use Rattle.plan.specs.Plan.{Axis, Plan, headerBits, msBits, axesBits}
 use Rattle.plan.specs.Reading.{refuse, field, sharesFactor, readBases, notPrimitive, isRepeated, readMs, readAxis, readAxes, readFields, Reading, refused, accepted, finish, readPlan}
-use Rattle.plan.specs.Refusals.{Field, familyField, axesField, baseField, degreeField, coefficientsField, mField, width, Before, Refusal, short, badFamily, badAxes, badBase, sharedFactor, highDegree, nonPrimitive, evenM, repeated, badEnding}
+use Rattle.plan.specs.Refusals.{Field, familyField, axesField, baseField, degreeField, coefficientsField, mField, width, Before, Refusal, short, badAxes, badBase, sharedFactor, highDegree, nonPrimitive, evenM, repeated, badEnding}
 use Rattle.plan.proofs.TestLaws.{true-of, no-shared-factor-iff, not-repeated-iff, primitive-iff, bad-tail}
 use Rattle.plan.proofs.StepLaws.{refuses, passes, field-short, field-of, then-refuses, afterCoefficients}
 use Rattle.plan.proofs.FrontLaws.{degree-front, polynomial-front, given-front, family-front, halton-front, sobol-front, plan-front}
@@ -26,9 +26,9 @@ after i s h = (s - suc i, omega arith)
 base-stops : (family s : ℕ) (bases l rest : List ℕ) (n : ℕ) → Before (baseField family s bases) l
     → ((k : ℕ) → readBases (suc k) bases rest ≡ refuse n) → readFields (l ++ rest) ≡ refuse n
 unfolding Before
-base-stops family s bases l rest n (plain, range, room, v, e) f =
+base-stops family s bases l rest n (kind, range, room, v, e) f =
     let k = after (length bases) s room in
-    rw e (halton-front family s (suc (k .0)) bases rest plain range (k .1) v ∙ then-refuses _ (f (k .0)))
+    rw e (halton-front family s (suc (k .0)) bases rest kind range (k .1) v ∙ then-refuses _ (f (k .0)))
 
 axis-stops : (s : ℕ) (axes : List Axis) (l rest : List ℕ) (n : ℕ) → Before (degreeField s axes) l
     → readAxis axes rest ≡ refuse n → readFields (l ++ rest) ≡ refuse n
@@ -80,7 +80,6 @@ module _ (bits : List ℕ) where
   due-refused : {n : ℕ} → Refusal bits n → finish (readFields bits) ≡ refused n
   unfolding finish readFields readBases readAxis readMs
   due-refused (short f l rest b h e) = rw (e, short-stops f l rest b h) refl
-  due-refused (badFamily rest e) = broken [] (toBits 2 3) rest 2 e (field-of 2 3 rest _ (omega arith) ∙ refuses 2 _ refl)
   due-refused (badAxes family s l rest b w e) = broken l (toBits 3 s) rest 3 e (axes-stop family s l rest b w)
   due-refused (badBase family s bases l rest b e) =
       broken l (toBits 8 0) rest 4 e (base-stops family s bases l _ 4 b (λ k. field-of 8 0 rest _ (omega arith) ∙ refuses 4 _ refl))
@@ -110,20 +109,23 @@ pub refused-iff : (bytes : List ℕ) (n : ℕ) → (readPlan bytes ≡ refused n
 unfolding readPlan
 refused-iff bytes n = (refused-due bytes n, due-refused (bitsOf bytes))
 
-refusal-range : {bits : List ℕ} {n : ℕ} → Refusal bits n → (1 ≤ n) × (n ≤ 10)
-refusal-range (short f l rest b h e) = (omega arith, omega arith)
-refusal-range (badFamily rest e) = (omega arith, omega arith)
-refusal-range (badAxes family s l rest b w e) = (omega arith, omega arith)
-refusal-range (badBase family s bases l rest b e) = (omega arith, omega arith)
-refusal-range (sharedFactor family s a j bases l rest b low high h shared e) = (omega arith, omega arith)
-refusal-range (highDegree s d axes l rest b h top e) = (omega arith, omega arith)
-refusal-range (nonPrimitive s d p axes l rest b h g o not e) = (omega arith, omega arith)
-refusal-range (evenM s d p m axes ms l rest b h even e) = (omega arith, omega arith)
-refusal-range (repeated s d p j axes l rest b fit h same e) = (omega arith, omega arith)
-refusal-range (badEnding p rest v w e) = (omega arith, omega arith)
+refusal-range : {bits : List ℕ} {n : ℕ} → Refusal bits n → (1 ≤ n) × (n ≤ 10) × (n ≡ 2 → ⊥)
+refusal-range (short f l rest b h e) = (omega arith, omega arith, λ z. omega arith)
+refusal-range (badAxes family s l rest b w e) = (omega arith, omega arith, λ z. omega arith)
+refusal-range (badBase family s bases l rest b e) = (omega arith, omega arith, λ z. omega arith)
+refusal-range (sharedFactor family s a j bases l rest b low high h shared e) = (omega arith, omega arith, λ z. omega arith)
+refusal-range (highDegree s d axes l rest b h top e) = (omega arith, omega arith, λ z. omega arith)
+refusal-range (nonPrimitive s d p axes l rest b h g o not e) = (omega arith, omega arith, λ z. omega arith)
+refusal-range (evenM s d p m axes ms l rest b h even e) = (omega arith, omega arith, λ z. omega arith)
+refusal-range (repeated s d p j axes l rest b fit h same e) = (omega arith, omega arith, λ z. omega arith)
+refusal-range (badEnding p rest v w e) = (omega arith, omega arith, λ z. omega arith)
 
-pub refused-range : (bytes : List ℕ) (n : ℕ) → readPlan bytes ≡ refused n → (1 ≤ n) × (n ≤ 10)
+pub refused-range : (bytes : List ℕ) (n : ℕ) → readPlan bytes ≡ refused n → (1 ≤ n) × (n ≤ 10) × (n ≡ 2 → ⊥)
 refused-range bytes n e = refusal-range (refused-due bytes n e)
+
+-- number 2 (family) is never given, by any byte string
+pub family-never : (bytes : List ℕ) → readPlan bytes ≡ refused 2 → ⊥
+family-never bytes e = refused-range bytes 2 e .2 refl
 
 -- a plan is accepted if and only if none of the numbers is due to its bytes
 pub accepted-iff-none : (bytes : List ℕ) → ((p : Plan) × (readPlan bytes ≡ accepted p)) ↔ ((n : ℕ) → Refusal (bitsOf bytes) n → ⊥)

@@ -12,17 +12,14 @@ use borrow.Author.Tests.{ltb-true, ltb-false, eqb-true, eqb-false}
 use Rattle.sobol.specs.Directions.{AllOddBelow}
 use Rattle.bits.specs.Stream.{toBits, ofBits, AllBelow}
 use Rattle.bits.proofs.StreamLaws.{below-right, of-bits-take-lt, to-bits-front}
-use Rattle.plan.specs.Plan.{Axis, Plan, ValidBases, ValidAxis, ValidAxes, OneToSix, Valid, headerBits, basesBits, msBits, axisBits, axesBits, planBits}
+use Rattle.plan.specs.Plan.{Axis, Plan, ValidBases, ValidAxis, ValidAxes, OneToSix, HaltonFamily, Valid, headerBits, basesBits, msBits, axisBits, axesBits, planBits}
 use Rattle.plan.specs.Reading.{Step, refuse, got, refuseIf, field, andThen, sharesFactor, readBases, polynomialOf, notPrimitive, isRepeated, readMs, readAxis, readAxes, readBody, readFields}
-use Rattle.plan.specs.Refusals.{Field, familyField, axesField, baseField, degreeField, coefficientsField, mField, width, NotAmong, ValidPolynomial, Before, Refusal, short, badFamily, badAxes, badBase, sharedFactor, highDegree, nonPrimitive, evenM, repeated}
+use Rattle.plan.specs.Refusals.{Field, familyField, axesField, baseField, degreeField, coefficientsField, mField, width, NotAmong, ValidPolynomial, Before, Refusal, short, badAxes, badBase, sharedFactor, highDegree, nonPrimitive, evenM, repeated}
 use Rattle.plan.proofs.PlaceLaws.{length-snoc}
 use Rattle.plan.proofs.TestLaws.{no-shared-factor-iff, shared-factor-at, not-repeated-iff, repeated-at, polynomial-degree, polynomial-odd, polynomial-bits, primitive-iff, not-primitive-at, axes-range-iff, axes-out}
 use Rattle.plan.proofs.SpellingLaws.{bases-bits-snoc, ms-bits-snoc, axes-bits-snoc}
 use Rattle.plan.proofs.StepLaws.{afterCoefficients}
 use Rattle.plan.proofs.ValidLaws.{no-bases, bases-snoc, no-ms, ms-snoc, no-axes, axes-snoc}
-
-lt-of-ne : (m n : ℕ) → n < suc m → (n ≡ m → ⊥) → n < m
-lt-of-ne m n h k = let e : n ≢ m = k in omega arith
 
 module _ (bits : List ℕ) (below : AllBelow 2 bits) where
   -- a step that refuses where the refusal is due, and goes on with a value and bits for which Good holds
@@ -53,7 +50,7 @@ module _ (bits : List ℕ) (below : AllBelow 2 bits) where
 
   -- ---- Halton axes
 
-  module _ (family s : ℕ) (plain : family < 2) (range : OneToSix s) where
+  module _ (family s : ℕ) (kind : HaltonFamily family) (range : OneToSix s) where
     -- these bases, all that there are, and then l
     record BasesRead (bases l : List ℕ) : Type 0 where
       count : length bases ≡ s
@@ -66,7 +63,7 @@ module _ (bits : List ℕ) (below : AllBelow 2 bits) where
     bases-sound zero earlier l ek v e = goes {a = earlier} (record { count = omega arith; valid = v; spelled = e })
     bases-sound (suc k) earlier l ek v e =
         let pre : List ℕ = headerBits family s ++ basesBits earlier in
-        let before : Before (baseField family s earlier) pre = (plain, range, omega arith, v, refl) in
+        let before : Before (baseField family s earlier) pre = (kind, range, omega arith, v, refl) in
         field-sound (baseField family s earlier) 8 pre l _ before refl e
         (λ b r hb eb.
         let back : b + 1 - 1 ≡ b = omega arith in
@@ -182,7 +179,7 @@ module _ (bits : List ℕ) (below : AllBelow 2 bits) where
     pub valid : Valid p
     pub spelled : bits ≡ planBits p ++ l
 
-  body-sound : (b : Bool) (family s : ℕ) (l : List ℕ) → eqb family 2 ≡ b → family < 3 → OneToSix s → bits ≡ headerBits family s ++ l
+  body-sound : (b : Bool) (family s : ℕ) (l : List ℕ) → eqb family 2 ≡ b → family < 4 → OneToSix s → bits ≡ headerBits family s ++ l
       → Sound PlanSpelled (readBody b family s l)
   unfolding readBody planBits Valid basesBits axesBits
   body-sound true family s l t h range e =
@@ -190,20 +187,17 @@ module _ (bits : List ℕ) (below : AllBelow 2 bits) where
       andThen-sound _ (axes-sound s range s [] l (omega arith) no-axes (rw append-nil e2))
       (λ axes r g. goes (record { valid = (rw (g .count) range, g .valid); spelled = rw (g .count) (g .spelled) }))
   body-sound false family s l t h range e =
-      let plain : family < 2 = lt-of-ne 2 family h (eqb-false family 2 t) in
-      andThen-sound _ (bases-sound family s plain range s [] l (omega arith) no-bases (rw append-nil e))
-      (λ bases r g. goes (record { valid = (plain, rw (g .count) range, g .valid); spelled = rw (g .count) (g .spelled) }))
+      let kind : HaltonFamily family = (h, eqb-false family 2 t) in
+      andThen-sound _ (bases-sound family s kind range s [] l (omega arith) no-bases (rw append-nil e))
+      (λ bases r g. goes (record { valid = (kind, rw (g .count) range, g .valid); spelled = rw (g .count) (g .spelled) }))
 
   pub fields-sound : Sound PlanSpelled (readFields bits)
   unfolding readFields Before width
   fields-sound =
       field-sound familyField 2 [] bits _ refl refl refl
       (λ family r hf ef.
-      refuseIf-sound (eqb family 3) (λ t. badFamily r (rw (eqb-true family 3 t) at ef))
-      (λ t.
-      let known : family < 3 = lt-of-ne 3 family hf (eqb-false family 3 t) in
-      let before : Before (axesField family) (toBits 2 family) = (known, refl) in
+      let before : Before (axesField family) (toBits 2 family) = (hf, refl) in
       field-sound (axesField family) 3 (toBits 2 family) r _ before refl ef
       (λ s l hs es.
       refuseIf-sound (eqb s 0 || eqb s 7) (λ u. badAxes family s (toBits 2 family) l before (axes-out s u) es)
-      (λ u. body-sound (eqb family 2) family s l refl known (axes-range-iff s hs .0 u) es))))
+      (λ u. body-sound (eqb family 2) family s l refl hf (axes-range-iff s hs .0 u) es)))

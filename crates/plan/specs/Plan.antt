@@ -17,7 +17,7 @@ pub record Axis : Type 0 where
 abbrev pub noAxis : Axis
 noAxis = record { polynomial = 0; ms = [] }
 
--- Halton plans with their family (0 plain, 1 permuted) and bases, and Sobol plans with their axes.
+-- Halton plans with their family and bases, and Sobol plans with their axes.
 pub data Plan : Type 0 where
   halton : ℕ → List ℕ → Plan
   sobol : List Axis → Plan
@@ -48,8 +48,12 @@ pub record ValidAxes (axes : List Axis) : Type 0 where
 abbrev pub OneToSix : ℕ → Type 0
 OneToSix s = (1 ≤ s) × (s ≤ 6)
 
+-- the Halton families: 0 plain, 1 with Faure's permutations, 3 with those of Kocis and Whiten; family 2 is Sobol's
+abbrev pub HaltonFamily : ℕ → Type 0
+HaltonFamily family = (family < 4) × (family ≡ 2 → ⊥)
+
 unfoldable pub Valid : Plan → Type 0
-Valid (halton family bases) = (family < 2) × OneToSix (length bases) × ValidBases bases
+Valid (halton family bases) = HaltonFamily family × OneToSix (length bases) × ValidBases bases
 Valid (sobol axes) = OneToSix (length axes) × ValidAxes axes
 
 -- ---- the spelling

@@ -82,11 +82,10 @@ unfoldable pub readBody : Bool → ℕ → ℕ → List ℕ → Step Plan
 readBody true family s l = andThen (readAxes s [] l) λ axes r. got (sobol axes) r
 readBody false family s l = andThen (readBases s [] l) λ bases r. got (halton family bases) r
 
--- 2 (family) for family 3, then 3 (axes) for 0 or 7
+-- the family, any of 0 to 3, and 3 (axes) for 0 or 7 axes; 2 (family) is never given since K5
 unfoldable pub readFields : List ℕ → Step Plan
 readFields l =
-    field 2 l λ family r. refuseIf (eqb family 3) 2
-    (field 3 r λ s t. refuseIf (eqb s 0 || eqb s 7) 3 (readBody (eqb family 2) family s t))
+    field 2 l λ family r. field 3 r λ s t. refuseIf (eqb s 0 || eqb s 7) 3 (readBody (eqb family 2) family s t)
 
 pub data Reading : Type 0 where
   refused : ℕ → Reading

@@ -1,5 +1,5 @@
--- When each of the numbers 1 to 10 is given, in the words of 01-scope.md: its condition holds, and nothing earlier in the order does, since
--- all fields before it are right. Definitions only.
+-- When each of the numbers 1 and 3 to 10 is given, in the words of 01-scope.md: its condition holds, and nothing earlier in the order does,
+-- since all fields before it are right. Number 2 (family) is given for nothing since family 3 is a Halton family (02's K5). Definitions only.
 use mathlib.Core.Path.{_≡_}
 use mathlib.Core.Logic.{_⊎_}
 use mathlib.Core.List.{List, [], _++_}
@@ -9,7 +9,7 @@ use Rattle.numbers.specs.Gcd.{Coprime}
 use Rattle.binary.specs.Polynomial.{Degree, Primitive}
 use Rattle.sobol.specs.Directions.{AllOddBelow}
 use Rattle.bits.specs.Stream.{toBits}
-use Rattle.plan.specs.Plan.{Axis, noAxis, Plan, ValidBases, ValidAxes, OneToSix, Valid, headerBits, basesBits, msBits, axesBits, planBits}
+use Rattle.plan.specs.Plan.{Axis, noAxis, Plan, ValidBases, ValidAxes, OneToSix, HaltonFamily, Valid, headerBits, basesBits, msBits, axesBits, planBits}
 
 -- The field that comes next, with what the fields before it say. In this order: family; number of axes of a plan of this family; base of a
 -- plan of this family and number of axes, after these bases; degree, in a Sobol plan of this number of axes, after these axes; coefficients,
@@ -45,9 +45,9 @@ pub record ValidPolynomial (d p : ℕ) : Type 0 where
 -- the bits before a field, all of whose fields are right
 unfoldable pub Before : Field → List ℕ → Type 0
 Before familyField l = l ≡ []
-Before (axesField family) l = (family < 3) × (l ≡ toBits 2 family)
+Before (axesField family) l = (family < 4) × (l ≡ toBits 2 family)
 Before (baseField family s bases) l =
-    (family < 2) × OneToSix s × (length bases < s) × ValidBases bases × (l ≡ headerBits family s ++ basesBits bases)
+    HaltonFamily family × OneToSix s × (length bases < s) × ValidBases bases × (l ≡ headerBits family s ++ basesBits bases)
 Before (degreeField s axes) l = OneToSix s × (length axes < s) × ValidAxes axes × (l ≡ headerBits 2 s ++ axesBits axes)
 Before (coefficientsField s axes d) l =
     OneToSix s × (length axes < s) × ValidAxes axes × (d ≤ 12) × (l ≡ headerBits 2 s ++ axesBits axes ++ toBits 4 d)
@@ -59,8 +59,6 @@ Before (mField s axes d p ms) l =
 pub data Refusal (bits : List ℕ) : ℕ → Type 0 where
   -- 1, short: the bytes end before a field's last bit
   short : (f : Field) (l rest : List ℕ) → Before f l → length rest < width f → bits ≡ l ++ rest → Refusal bits 1
-  -- 2, family: family 3
-  badFamily : (rest : List ℕ) → bits ≡ toBits 2 3 ++ rest → Refusal bits 2
   -- 3, axes: 0 or 7
   badAxes : (family s : ℕ) (l rest : List ℕ) → Before (axesField family) l → (s ≡ 0) ⊎ (s ≡ 7) → bits ≡ l ++ toBits 3 s ++ rest → Refusal bits 3
   -- 4, base: base 1
