@@ -32,7 +32,7 @@ pub record FitBases (bases : List ℕ) (n : ℕ) : Type 0 where
   pub coprime : (i j : ℕ) → j < i → i < n → Coprime (getD bases i 0) (getD bases j 0)
 
 pub record FitHalton (family axes : ℕ) (bases ps vs : List ℕ) : Type 0 where
-  pub kind : family < 2
+  pub kind : family < 4
   pub bases-fit : FitBases bases axes
   pub bases-zero : ZeroFrom axes bases
   pub polynomials-zero : ZeroFrom 0 ps

@@ -72,7 +72,7 @@ fn is_halton<'a>(
     requires { ⌜ axes ≤ length (now bases) ⌝ }
     ensures { λ r. ⌜ (r ≡ true) ↔ FitHalton family axes (now (bases .entry)) (now (polynomials .entry)) (now (directions .entry)) ⌝ }
 {
-    if 1 < family {
+    if 3 < family {
         return false;
     }
     if !are_bases(bases, axes) {

@@ -13,7 +13,7 @@ pub struct Reversed {
 
 // The image of the digit `d` in base `b`: the entry of the lent table `images` where that has all of the base's digits, else by the family.
 fn digit_image(family: u64, b: u64, images: &[u8], d: u64) -> u64
-    requires { ⌜ (2 ≤ b) × (d < b) ⌝ }
+    requires { ⌜ (2 ≤ b) × (b ≤ 256) × (d < b) ⌝ }
     ensures { λ r. ⌜ r ≡ imageBy family b (now (images .entry)) d ⌝ }
 {
     if (images.len() as u64) < b {

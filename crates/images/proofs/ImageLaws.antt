@@ -1,4 +1,4 @@
--- Tables of images made in place by their halves. Assumes nothing.
+-- Tables of images of odd bases, made in place by their halves. Assumes nothing.
 use mathlib.Core.Path.{_≡_, sym, ap, _∙_}
 use mathlib.Core.Logic.{⊎-elim}
 use mathlib.Core.List.{List}
@@ -47,10 +47,6 @@ module _ {σ τ : ℕ → ℕ} {h s k : ℕ} {l : List ℕ} (a : Halves σ τ h 
   upper d p q =
       let e : d ≡ s + (d - s) = omega arith in
       ap (λ (x : ℕ). getD l x 0) e ∙ a .high (d - s) (omega arith) ∙ ap τ {x = s + (d - s)} {y = d} (omega arith)
-
-  -- halves that meet are the table
-  pub halves-meet : (b : ℕ) → s ≤ k → b ≤ s + k → Begins τ b l
-  halves-meet b meet all = record { at = λ d q. ⊎-elim (λ p. a .low .at d p) (λ p. upper d (omega arith) (omega arith)) (lt-or-ge d k) }
 
   -- halves with one place between them want its entry
   pub halves-centre : {b c v : ℕ} → c ≡ k → s ≡ c + 1 → b ≤ s + k → c < length l → v ≡ τ c → Begins τ b (set l c v)

@@ -1,11 +1,13 @@
-// The images of all digits of a base as a table of bytes. Faure's are made in place from those of base b / 2, with about two stores a digit in
-// all.
+// The images of all digits of a base as a table of bytes. Those of a permutation are made in place from those of half the base, with about two
+// stores a digit in all.
 ghost use mathlib.Core.Path.{_≡_};
-ghost use Prim.Native.Nat.{_/_, _%_, _<_, _≤_};
+ghost use Prim.Native.Nat.{_+_, _-_, _/_, _%_, _<_, _≤_};
 ghost use lib.ListN.{length};
 ghost use Rattle.numbers.specs.Listed.{Begins};
 ghost use Rattle.permutation.specs.Faure.{openGap, faure};
+ghost use Rattle.permutation.specs.Kocis.{kocis};
 ghost use Rattle.permutation.specs.Families.{imageOf};
+ghost use Rattle.images.specs.Spread.{Small, Spread};
 
 // The digits of base `b`, each itself, in the front of `l`.
 fn plain_images(b: usize, l: &mut [u8])
@@ -19,18 +21,17 @@ fn plain_images(b: usize, l: &mut [u8])
     }
 }
 
-// Makes the images of base b / 2 in `l` those of the even base `b`: twice each in the lower half, and one more in the upper.
-fn even_images(b: usize, l: &mut [u8])
-    requires { ⌜ (4 ≤ b) × (b ≤ 256) × (b % 2 ≡ 0) × (256 ≤ length (now l)) × Begins (faure (b / 2)) (b / 2) (now l) ⌝ }
-    ensures { λ r. ⌜ Begins (faure b) b (now (l .exit)) ⌝ }
+// Makes each number x of `l` from place `a` up to `e` twice as large, and puts 2 x + 1 `s` places on.
+fn spread(a: usize, e: usize, s: usize, l: &mut [u8])
+    requires { ⌜ (a ≤ e) × (e ≤ s + a) × (s + e ≤ 256) × (256 ≤ length (now l)) × Small a e (now l) ⌝ }
+    ensures { λ r. ⌜ Spread a e s (now (l .entry)) (now (l .exit)) ⌝ }
 {
-    let h = b / 2;
-    let mut k = 0;
-    while k < h {
+    let mut k = a;
+    while k < e {
         let lower = 2 * l[k];
         let upper = lower + 1;
         l[k] = lower;
-        l[h + k] = upper;
+        l[s + k] = upper;
         k += 1;
     }
 }
@@ -70,12 +71,35 @@ fn faure_images(b: usize, l: &mut [u8])
         plain_images(b, l);
         return;
     }
-    faure_images(b / 2, l);
+    let h = b / 2;
+    faure_images(h, l);
     if b % 2 == 0 {
-        even_images(b, l);
+        spread(0, h, h, l);
     } else {
         odd_images(b, l);
     }
+}
+
+// The images of the digits of base `b` under the permutation of Kocis and Whiten, in the front of `l`, and the place of b - 1, the largest. Of base h,
+// the larger half, each is doubled, for the even images, and then each but b itself is one more than that.
+fn kocis_images(b: usize, l: &mut [u8]) -> usize
+    requires { ⌜ (1 ≤ b) × (b ≤ 256) × (256 ≤ length (now l)) ⌝ }
+    ensures { λ r. ⌜ Begins (kocis b) b (now (l .exit)) × (r < b) × (kocis b r ≡ b - 1) ⌝ }
+{
+    if b < 2 {
+        l[0] = 0;
+        return 0;
+    }
+    let h = (b + 1) / 2;
+    let u = kocis_images(h, l);
+    if b % 2 == 0 {
+        spread(0, h, h, l);
+        return h + u;
+    }
+    spread(0, u, h, l);
+    l[u] = (b - 1) as u8;
+    spread(u + 1, h, h - 1, l);
+    u
 }
 
 // The images of the digits of base `b` in a plan of this family, in the front of `l`.
@@ -85,6 +109,10 @@ pub fn images(family: u64, b: u64, l: &mut [u8])
 {
     if family == 1 {
         faure_images(b as usize, l);
+        return;
+    }
+    if family == 3 {
+        kocis_images(b as usize, l);
     } else {
         plain_images(b as usize, l);
     }

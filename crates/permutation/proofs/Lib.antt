@@ -7,4 +7,5 @@ pub mod PermutationLaws
 pub mod SieveLaws
 pub mod KocisLaws
 pub mod DescentLaws
+pub mod TableLaws
 pub mod FamilyLaws

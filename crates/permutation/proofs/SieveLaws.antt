@@ -3,17 +3,18 @@
 use mathlib.Core.Path.{_≡_, refl, sym, ap, ap₂, _∙_}
 use mathlib.Core.Bool.{Bool, true, false, cond}
 use mathlib.Core.List.{List, [], _∷_, _++_, map}
+use mathlib.Core.Logic.{⊎-elim}
 use Prim.Native.Nat.{ℕ, zero, suc, _+_, _-_, _*_, _/_, _%_, _^_, _<_, _≤_}
 use native.Mathlib.Nat.{pow-zero, pow-suc, div-eq-of-lt, add-div-left}
 use native.Mathlib.Numerals.{suc-eq-add-one}
 use native.Mathlib.Omega.{arith}
 use lib.Dec.{ltb}
-use borrow.Author.Tests.{le-ltb}
+use borrow.Author.Tests.{lt-ltb, le-ltb}
 use lib.ListN.{length, getD, length-append, length-map, List·getD-append, List·getD-map}
 use lib.Seq.{getD-append-add}
 use Rattle.numbers.specs.Digits.{digit, numeratorTo, sum}
 use Rattle.numbers.specs.Listed.{listed}
-use Rattle.numbers.proofs.Cases.{lt-iff}
+use Rattle.numbers.proofs.Cases.{lt-or-ge, lt-iff}
 use Rattle.numbers.proofs.DigitLaws.{pow-pos, pow-one-more}
 use Rattle.numbers.proofs.ListedLaws.{listed-same, listed-parts, listed-map}
 use Rattle.numbers.proofs.NumeratorLaws.{numerator-none, numerator-last, numerator-lt, numerator-low}
@@ -30,6 +31,20 @@ less-append b (x ∷ l) m =
     front : (t : Bool) → cond t (x ∷ lessFrom b l ++ lessFrom b m) (lessFrom b l ++ lessFrom b m) ≡ cond t (x ∷ lessFrom b l) (lessFrom b l) ++ lessFrom b m
     front true = refl
     front false = refl
+
+-- all of them are below
+pub less-all : (b : ℕ) (l : List ℕ) → ((i : ℕ) → i < length l → getD l i 0 < b) → lessFrom b l ≡ l
+unfolding lessFrom
+less-all b [] h = refl
+less-all b (x ∷ l) h = rw (lt-ltb x b (h 0 (omega arith))) (ap (λ (r : List ℕ). x ∷ r) (less-all b l (λ i k. h (suc i) (omega arith))))
+
+-- once more, from a smaller number on
+less-less : (b c : ℕ) → c ≤ b → (l : List ℕ) → lessFrom c (lessFrom b l) ≡ lessFrom c l
+unfolding lessFrom
+less-less b c k [] = refl
+less-less b c k (x ∷ l) =
+    ⊎-elim (λ h. rw (lt-ltb x b h) (ap (λ (r : List ℕ). cond (ltb x c) (x ∷ r) r) (less-less b c k l)))
+    (λ h. rw (le-ltb x b h, le-ltb x c (omega arith)) (less-less b c k l)) (lt-or-ge x b)
 
 -- where g x is below b just if x is below c, g carries the one to the other
 less-map : (g : ℕ → ℕ) (b c : ℕ) → ((x : ℕ) → ltb (g x) b ≡ ltb x c) → (l : List ℕ) → lessFrom b (map g l) ≡ map g (lessFrom c l)
@@ -94,6 +109,10 @@ sieve-halves d b =
     ∙ ap₂ (λ (l m : List ℕ). l ++ m)
     (less-map double b ((b + 1) / 2) (λ x. lt-iff (2 * x) b x ((b + 1) / 2) (λ h. omega arith) (λ h. omega arith)) l)
     (less-map doubleMore b (b / 2) (λ x. lt-iff (2 * x + 1) b x (b / 2) (λ h. omega arith) (λ h. omega arith)) l)
+
+pub sieve-less : (d b c : ℕ) → c ≤ b → lessFrom c (sieve d b) ≡ sieve d c
+unfolding sieve
+sieve-less d b c h = less-less b c h (listed (corput d) (2 ^ d))
 
 -- below 0 there is none
 less-none : (l : List ℕ) → lessFrom 0 l ≡ []

@@ -149,14 +149,14 @@ pub numerator-at-plan : (p : Plan) → Valid p → (n i : ℕ) → i < axisCount
     → numeratorAt (familyOf p) (basesArray p) (directionsArray p) n i ≡ numeratorOf p n i
 unfolding Valid familyOf axisCount basesArray directionsArray numeratorAt numeratorBy numeratorOf padded
 numerator-at-plan (halton family bases) v n i h =
-    sym (numerator-by-base family (padded 6 bases) (replicate 192 0) n i (λ e. omega arith)) ∙ rw (padded-at 6 bases i) refl
+    sym (numerator-by-base family (padded 6 bases) (replicate 192 0) n i (v .0 .1)) ∙ rw (padded-at 6 bases i) refl
 numerator-at-plan (sobol axes) v n i h =
     ap (λ (l : List ℕ). stepped l n) (directions-in-at axes (replicate (192 - length (directionsIn axes)) 0) i h)
 
 pub denominator-at-plan : (p : Plan) → Valid p → (i : ℕ) → denominatorAt (familyOf p) (basesArray p) i ≡ denominatorOf p i
 unfolding Valid familyOf basesArray denominatorOf
 denominator-at-plan (halton family bases) v i =
-    sym (denominator-by-base family (padded 6 bases) i (λ e. omega arith)) ∙ ap denominator (padded-at 6 bases i)
+    sym (denominator-by-base family (padded 6 bases) i (v .0 .1)) ∙ ap denominator (padded-at 6 bases i)
 denominator-at-plan (sobol axes) v i = sym (denominator-by-two 2 (replicate 6 0) i refl)
 
 module _ (p : Plan) (v : Valid p) where

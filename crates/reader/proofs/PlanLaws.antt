@@ -118,18 +118,13 @@ module _ {bytes : List ℕ} {f : ℕ} (h : FamilyRead bytes f) where
   is-f : ofBits (take 2 (bitsOf bytes)) ≡ f
   is-f = field-value bytes 0 2 (h .value)
 
-  pub family-bad : f ≡ 3 → readPlan bytes ≡ refused 2
+  pub axes-short : {r : Bool} → r ≡ ltb (length (drop 2 (bitsOf bytes))) 3 → r ≡ true → readPlan bytes ≡ refused 1
   unfolding readPlan readFields field refuseIf finish
-  family-bad e = rw (long, is-f, eq-eqb f 3 e) refl
-
-  pub axes-short : (f ≡ 3 → ⊥) → {r : Bool} → r ≡ ltb (length (drop 2 (bitsOf bytes))) 3 → r ≡ true → readPlan bytes ≡ refused 1
-  unfolding readPlan readFields field refuseIf finish
-  axes-short n er t = rw (long, is-f, ne-eqb f 3 n, ← er, t) refl
+  axes-short er t = rw (long, is-f, ← er, t) refl
 
 -- and the number of axes
 pub record AxesRead (bytes : List ℕ) (f s : ℕ) : Type 0 where
   pub family : FamilyRead bytes f
-  pub good : f ≡ 3 → ⊥
   pub long : ltb (length (drop 2 (bitsOf bytes))) 3 ≡ false
   pub value : s ≡ fieldAt bytes 2 3
 
@@ -139,7 +134,7 @@ module _ {bytes : List ℕ} {f s : ℕ} (h : AxesRead bytes f s) where
 
   to-axes : readPlan bytes ≡ finish (refuseIf (eqb s 0 || eqb s 7) 3 (readBody (eqb f 2) f s (drop 5 (bitsOf bytes))))
   unfolding readPlan readFields field refuseIf
-  to-axes = rw (long (h .family), is-f (h .family), ne-eqb f 3 (h .good), h .long, is-s, drop-drop 3 2 (bitsOf bytes)) refl
+  to-axes = rw (long (h .family), is-f (h .family), h .long, is-s, drop-drop 3 2 (bitsOf bytes)) refl
 
   pub axes-none : s ≡ 0 → readPlan bytes ≡ refused 3
   unfolding refuseIf finish

@@ -90,9 +90,6 @@ pub fn read_plan(bytes: &[u8]) -> PlanRead
         return no_plan(refusal::TRUNCATED);
     }
     let family = bits::field(bytes, 0, 2);
-    if family == 3 {
-        return no_plan(refusal::BAD_FAMILY);
-    }
     if bits::is_short(bytes, 2, 3) {
         return no_plan(refusal::TRUNCATED);
     }

@@ -76,5 +76,5 @@ module _ (axes : List Axis) (six : length axes ≤ 6) (v : ValidAxes axes) where
 
 pub plan-in-made : (p : Plan) → Valid p → (r : Run) (taken : ℕ) → planIn (made p r taken) ≡ p
 unfolding planIn made Valid planOf planBy familyOf axisCount basesArray polynomialsArray directionsArray
-plan-in-made (halton family bases) v r taken = rw (ne-eqb family 2 (λ e. omega arith)) (ap (halton family) (padded-take 6 bases (length bases) refl))
+plan-in-made (halton family bases) v r taken = rw (ne-eqb family 2 (v .0 .1)) (ap (halton family) (padded-take 6 bases (length bases) refl))
 plan-in-made (sobol axes) v r taken = ap sobol (axes-back axes (v .0 .1) (v .1) (length axes) (omega arith) ∙ take-length axes)

@@ -76,7 +76,7 @@ bound-padded bases N (suc s) = rw (bound-padded bases N s, padded-at 6 bases s) 
 
 bound-plan : (p : Plan) → Valid p → (N : ℕ) → boundBy (eqb (familyOf p) 2) (basesArray p) N (axisCount p) ≡ boundOf p N
 unfolding Valid familyOf basesArray axisCount boundBy boundOf
-bound-plan (halton family bases) v N = rw (ne-eqb family 2 (λ e. omega arith)) (bound-padded bases N (length bases))
+bound-plan (halton family bases) v N = rw (ne-eqb family 2 (v .0 .1)) (bound-padded bases N (length bases))
 bound-plan (sobol axes) v N = refl
 
 pub bound-of-fits : (p : Plan) → Valid p → (N : ℕ) → N ≤ 2 ^ 32 → boundOf p N < 2 ^ 63

@@ -22,7 +22,7 @@ module _ {old mid new : List ℕ} {end : ℕ} (family axes : ℕ) (bases ps ms :
   unfolding planOf planBy planBits
   whole-sobol e p = rw (e, length-axes ps ms axes) (put-then (omega arith) (rw e at h) p)
 
-  pub whole-halton : family < 2 → axes ≤ length bases → BitsPut mid new 5 (basesBits (take axes bases)) end
+  pub whole-halton : (family ≡ 2 → ⊥) → axes ≤ length bases → BitsPut mid new 5 (basesBits (take axes bases)) end
       → BitsPut old new 0 (planBits (planOf family axes bases ps ms)) end
   unfolding planOf planBy planBits
-  whole-halton l k p = rw (ne-eqb family 2 (λ e. omega arith), length-take-le axes bases k) (put-then (omega arith) h p)
+  whole-halton n k p = rw (ne-eqb family 2 n, length-take-le axes bases k) (put-then (omega arith) h p)

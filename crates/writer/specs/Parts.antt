@@ -10,12 +10,12 @@ use Rattle.plan.specs.Plan.{Plan, spell}
 
 -- what arrays of a plan have to meet for the writer: no more than six axes, bases from 1 up, degrees up to 12
 pub record Writable (family axes : ℕ) (bases ps ms : List ℕ) : Type 0 where
-  pub kind : family ≤ 2
+  pub kind : family < 4
   pub count : axes ≤ 6
   pub bases-long : axes ≤ length bases
   pub polynomials-long : axes ≤ length ps
   pub ms-long : 72 ≤ length ms
-  pub base : (k : ℕ) → k < axes → family < 2 → 1 ≤ getD bases k 0
+  pub base : (k : ℕ) → k < axes → (family ≡ 2 → ⊥) → 1 ≤ getD bases k 0
   pub degree : (k : ℕ) → k < axes → degreeOf (getD ps k 0) ≤ 12
 
 -- ---- the writer's answer for a plan and a buffer

@@ -1,5 +1,5 @@
 -- The cycle of calls {faure_images} meets its contract: the measure is the base, and each base above 3 is made of its half. Assumes nothing.
-use Prim.Native.Nat.{ℕ, _<_}
+use Prim.Native.Nat.{ℕ, _/_, _<_}
 use native.Mathlib.Omega.{arith}
 use borrow.Author.Needs.{needs}
 use borrow.Fn.Kinds.{In}
@@ -8,10 +8,13 @@ use Rattle.numbers.proofs.ListedLaws.{begins-as}
 use Rattle.permutation.specs.Faure.{faure}
 use Rattle.permutation.specs.Families.{imageOf}
 use Rattle.permutation.proofs.FaureRules.{faure-small}
+use Rattle.permutation.proofs.FaureLaws.{faure-below}
+use Rattle.images.proofs.SpreadLaws.{table-small, halves-spread}
+use Rattle.images.proofs.HalfLaws.{even-low, even-high}
 use Rattle.images.proofs.faure_images.Reads as faure-images
 use Rattle.images.proofs.faure_images.Kinds as faure-images-kinds
 use Rattle.images.proofs.+faure_images.Lts-faure_images as lts
-use Rattle.images.proofs.even_images.Reads as even-images
+use Rattle.images.proofs.spread.Reads as spread
 use Rattle.images.proofs.odd_images.Reads as odd-images
 use Rattle.images.proofs.plain_images.Reads as plain-images
 use Rattle.images.proofs.+faure_images.{statement}
@@ -28,7 +31,7 @@ below t = and 1 faure-images-kinds.ps (falls 1 faure-images-kinds.ps _<_ μ-faur
 
 -- what is told of the calls
 abbrev calls : ℕ → lts.Claims
-calls t = (plain-images.Asked, plain-images.Learnt, below t, faure-images.Post, even-images.Asked, even-images.Learnt, odd-images.Asked, odd-images.Learnt)
+calls t = (plain-images.Asked, plain-images.Learnt, below t, faure-images.Post, spread.Asked, spread.Learnt, odd-images.Asked, odd-images.Learnt)
 
 plain-images-requires : (t : ℕ) → lts.Need-plain-images-requires (calls t) (at t) faure-images.Post
 plain-images-requires t c κs = search needs
@@ -45,8 +48,16 @@ returns t c =
 faure-images-requires : (t : ℕ) → lts.Need-faure-images-requires (calls t) (at t) faure-images.Post
 faure-images-requires t c κs = omega arith
 
-even-images-requires : (t : ℕ) → lts.Need-even-images-requires (calls t) (at t) faure-images.Post
-even-images-requires t c κs = (search needs, search needs, search needs, search needs, c .before .before .before .before .faure-images .ensures)
+spread-requires : (t : ℕ) → lts.Need-spread-requires (calls t) (at t) faure-images.Post
+spread-requires t c κs =
+    let f = c .before .before .before .before in
+    let b = f .before .before .before .before .args .b in (
+      omega arith,
+      omega arith,
+      omega arith,
+      search needs,
+      table-small (f .faure-images .ensures) (λ k l. faure-below (b / 2) k (omega arith) l) (omega arith) (b / 2) (omega arith),
+    )
 
 odd-images-requires : (t : ℕ) → lts.Need-odd-images-requires (calls t) (at t) faure-images.Post
 odd-images-requires t c κs = (omega arith, search needs, omega arith, search needs, c .before .before .before .before .faure-images .ensures)
@@ -55,7 +66,11 @@ same-length-2 : (t : ℕ) → lts.Need-same-length-2 (calls t) (at t) faure-imag
 same-length-2 t c = search needs
 
 returns-2 : (t : ℕ) → lts.Need-returns-2 (calls t) (at t) faure-images.Post
-returns-2 t c = c .before .before .even-images .ensures
+returns-2 t c =
+    let f = c .before .before .before .before .before .before .before in
+    let b = f .before .before .before .before .args .b in
+    halves-spread (f .faure-images .ensures) (λ k l. even-low {b = b} (omega arith) (omega arith) l) (c .before .before .spread .ensures)
+    (λ k l. even-high {b = b} (omega arith) (omega arith) l) b (omega arith)
 
 same-length-3 : (t : ℕ) → lts.Need-same-length-3 (calls t) (at t) faure-images.Post
 same-length-3 t c = search needs
@@ -71,7 +86,7 @@ pub +faure-images-spec : {M : Type 1} → statement M
     (same-length t)
     (returns t)
     (faure-images-requires t)
-    (even-images-requires t)
+    (spread-requires t)
     (odd-images-requires t)
     (same-length-2 t)
     (returns-2 t)

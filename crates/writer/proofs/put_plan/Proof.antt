@@ -34,8 +34,7 @@ returns c =
 put-bases-requires : tie.Need-put-bases-requires
 put-bases-requires c κs =
     let start = c .before .before .before .before .before .before .before .before .before .before .before .before .before .before in
-    let low : start .args .family < 2 = omega arith in
-    (omega arith, omega arith, omega arith, λ k h. start .pre .1 .base k h low)
+    (omega arith, omega arith, omega arith, λ k h. start .pre .1 .base k h (λ e. omega arith))
 
 same-length-2 : tie.Need-same-length-2
 same-length-2 c = search needs
@@ -49,7 +48,7 @@ returns-2 c =
     let header = put-header (a .family) (a .axes) (put-field _ _ _ (first .put .kept .0) (first .put .ensures) (omega arith) (omega arith) (omega arith))
     (put-field _ _ _ (second .put2 .kept .0) (second .put2 .ensures) (omega arith) (omega arith) (omega arith)) in
     let most = length-bases-bits (take (a .axes) (a .bases .now)) in (
-      whole-halton (a .family) (a .axes) (a .bases .now) (a .polynomials .now) (a .ms .now) header (omega arith) (omega arith) (bases .put-bases .ensures),
+      whole-halton (a .family) (a .axes) (a .bases .now) (a .polynomials .now) (a .ms .now) header (λ e. omega arith) (omega arith) (bases .put-bases .ensures),
       omega (arith, length-take (a .axes) (a .bases .now)),
     )
 
