@@ -15,12 +15,23 @@ unsigned faure_image(unsigned b, unsigned k) {
     return r < c ? r : r + 1;
 }
 
-void baseline_images(int family, unsigned b, uint8_t *t) {
-    if (family == 0) {
-        for (unsigned k = 0; k < b; k++)
-            t[k] = (uint8_t)k;
-        return;
+unsigned kocis_image(unsigned b, unsigned k) {
+    unsigned r = 0;
+    for (unsigned h = b, bit = 1; h > 1; bit *= 2) {
+        unsigned c = (h + 1) / 2;
+        if (k < c) {
+            h = c;
+        } else {
+            k -= c;
+            h -= c;
+            r += bit;
+        }
     }
+    return r;
+}
+
+/* Faure's images, from base 2 up. */
+static void faure_images(unsigned b, uint8_t *t) {
     if (b == 2) {
         t[0] = 0;
         t[1] = 1;
@@ -28,19 +39,42 @@ void baseline_images(int family, unsigned b, uint8_t *t) {
     }
     unsigned h = b / 2;
     if (b % 2 == 0) {
-        baseline_images(family, h, t);
+        faure_images(h, t);
         for (unsigned k = 0; k < h; k++) {
             t[h + k] = (uint8_t)(2 * t[k] + 1);
             t[k] = (uint8_t)(2 * t[k]);
         }
         return;
     }
-    baseline_images(family, b - 1, t);
+    faure_images(b - 1, t);
     for (unsigned k = b - 1; k > h; k--)
         t[k] = (uint8_t)(t[k - 1] < h ? t[k - 1] : t[k - 1] + 1);
     t[h] = (uint8_t)h;
     for (unsigned k = 0; k < h; k++)
         t[k] = (uint8_t)(t[k] < h ? t[k] : t[k] + 1);
+}
+
+/* The list of Kocis and Whiten: bit by bit, the highest first, each number that is there comes again with the bit added, and what is not below b is
+   left out. */
+static void kocis_images(unsigned b, uint8_t *t) {
+    unsigned n = 1, bit = 1;
+    while (bit < b)
+        bit *= 2;
+    t[0] = 0;
+    while (bit /= 2)
+        for (unsigned k = 0, end = n; k < end; k++)
+            if (t[k] + bit < b)
+                t[n++] = (uint8_t)(t[k] + bit);
+}
+
+void baseline_images(int family, unsigned b, uint8_t *t) {
+    if (family == 1)
+        faure_images(b, t);
+    else if (family == 3)
+        kocis_images(b, t);
+    else
+        for (unsigned k = 0; k < b; k++)
+            t[k] = (uint8_t)k;
 }
 
 /* An axis that steps: its digits with their images' weights, the carry going up. */
@@ -197,7 +231,7 @@ uint64_t baseline_axis_jump(int family, unsigned b, uint64_t reciprocal, uint64_
     for (uint64_t n = index, p = 1; p < 4294967296u; p *= b) {
         uint64_t q = (uint64_t)((unsigned __int128)n * reciprocal >> 64);
         unsigned digit = (unsigned)(n - q * b);
-        x = x * b + (family == 1 ? faure_image(b, digit) : digit);
+        x = x * b + (family == 1 ? faure_image(b, digit) : family == 3 ? kocis_image(b, digit) : digit);
         n = q;
     }
     return x;

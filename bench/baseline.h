@@ -4,7 +4,7 @@
 #include <stddef.h>
 #include <stdint.h>
 
-/* A plan: family 0 Halton, 1 permuted, 2 Sobol, as in the plan bytes. */
+/* A plan: family 0 Halton, 1 permuted, 2 Sobol, 3 with the permutations of Kocis and Whiten, as in the plan bytes. */
 typedef struct {
     int family, axes;
     unsigned base[6];            /* Halton families */
@@ -14,7 +14,11 @@ typedef struct {
 /* Faure's image of digit k in base b, by his rules. */
 unsigned faure_image(unsigned b, unsigned k);
 
-/* The images of all digits of base b, from base 2 up. */
+/* The image of digit k in base b by Kocis and Whiten, from its lowest binary digit up: of h numbers below b that end in those taken so far, the
+   (h + 1) / 2 that have 0 next come first. */
+unsigned kocis_image(unsigned b, unsigned k);
+
+/* The images of all digits of base b, as a table. */
 void baseline_images(int family, unsigned b, uint8_t *t);
 
 /* `count` points from index `start` on, point after point; the tables are made at the start of each call. */

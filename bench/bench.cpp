@@ -40,18 +40,10 @@ static std::vector<double> race(const std::vector<Program> &programs, int turns 
 }
 
 static std::vector<Case> cases() {
-    return {halton("Halton 2", 0, {2}),
-            halton("Halton 2 3 5", 0, {2, 3, 5}),
-            halton("Halton 2 3 5 7 11 13", 0, {2, 3, 5, 7, 11, 13}),
-            halton("Halton 256 255 253 251 247 241", 0, {256, 255, 253, 251, 247, 241}),
-            halton("permuted 5", 1, {5}),
-            halton("permuted 3 5 7", 1, {3, 5, 7}),
-            halton("permuted 2 3 5 7 11 13", 1, {2, 3, 5, 7, 11, 13}),
-            halton("permuted 256 255 253 251 247 241", 1, {256, 255, 253, 251, 247, 241}),
-            sobol("Sobol, 1 axis", first(1)),
-            sobol("Sobol, 3 axes", first(3)),
-            sobol("Sobol, 6 axes", first(6)),
-            six_of_degree_12()};
+    return {halton(0, {2}), halton(0, {2, 3, 5}), halton(0, SMALL_BASES), halton(0, LARGE_BASES),
+            halton(1, {5}), halton(1, {3, 5, 7}), halton(1, SMALL_BASES), halton(1, LARGE_BASES),
+            halton(3, {5}), halton(3, {3, 5, 7}), halton(3, SMALL_BASES), halton(3, LARGE_BASES),
+            sobol("Sobol, 1 axis", first(1)), sobol("Sobol, 3 axes", first(3)), sobol("Sobol, 6 axes", first(6)), six_of_degree_12()};
 }
 
 static void check(bool holds, const std::string &what) {
@@ -139,8 +131,7 @@ static Program quantlib_jumps(size_t axes) {
 }
 
 static bool is_first_primes(const Case &c) {
-    static const unsigned primes[6] = {2, 3, 5, 7, 11, 13};
-    return c.plan.family == 0 && std::equal(c.plan.base, c.plan.base + c.plan.axes, primes);
+    return c.plan.family == 0 && std::equal(c.plan.base, c.plan.base + c.plan.axes, SMALL_BASES.begin());
 }
 
 static void blocks(const std::vector<Case> &all) {
@@ -208,16 +199,14 @@ static void counts(const std::vector<Case> &all) {
     }
 }
 
+// A permutation moves the strips and makes them no more or fewer, so that family 3 has one axis and six alone.
 static std::vector<Case> strip_cases() {
     std::vector<Case> cases;
-    for (int family : {0, 1})
-        for (const std::vector<unsigned> &bases : std::vector<std::vector<unsigned>>{
-                 {2}, {2, 3}, {2, 3, 5}, {2, 3, 5, 7, 11, 13}, {256}, {256, 255}, {256, 255, 253}, {256, 255, 253, 251, 247, 241}}) {
-            std::string name = family ? "permuted" : "Halton";
-            for (unsigned b : bases)
-                name += " " + std::to_string(b);
-            cases.push_back(halton(name.c_str(), family, bases));
-        }
+    for (int family : HALTON_FAMILIES)
+        for (const std::vector<unsigned> &bases : {SMALL_BASES, LARGE_BASES})
+            for (size_t axes : {1, 2, 3, 6})
+                if (family != 3 || axes == 1 || axes == 6)
+                    cases.push_back(halton(family, {bases.begin(), bases.begin() + (long)axes}));
     return cases;
 }
 
@@ -353,7 +342,7 @@ static void random_strips() {
             std::vector<double> ratios;
             for (int k = 0; k < 200; k++) {
                 std::vector<unsigned> bases = random_bases(r, limit);
-                Case c = halton("random", (int)r.below(2), bases);
+                Case c = halton(HALTON_FAMILIES[r.below(3)], bases);
                 uint64_t count = n + r.below(n), start = r.below(1u << 31), s[2];
                 Window w = random_window(r, bases.size());
                 uint64_t times = std::max<uint64_t>(1, 32768 / count);
@@ -392,10 +381,10 @@ static void day_counts(const std::vector<Case> &all) {
 
 static void axis_jumps() {
     printf("\n## A jump on one Halton axis, no state: ns\n\n| axis | ours | C with the reciprocal stored |\n|---|---|---|\n");
-    for (int family : {0, 1})
+    for (int family : HALTON_FAMILIES)
         for (unsigned b : {2u, 3u, 13u, 241u, 256u}) {
             uint64_t ours = 0, plain = 0, reciprocal = UINT64_MAX / b + 1, first = 123456789;
-            row((family ? "permuted " : "Halton ") + std::to_string(b),
+            row(halton(family, {b}).name,
                 {{"ours", 10000, [&] { ours = bench_axis_jumps((uint64_t)family, b, first, 10000); }},
                  {"C", 10000, [&] {
                       plain = 0;
@@ -487,6 +476,17 @@ static void calls(const std::vector<Case> &all) {
     }
 }
 
+// A step with the permutations of Kocis and Whiten beside a step with Faure's, on the same bases.
+static void permuted_steps() {
+    printf("\n## A step by Faure's permutations and by those of Kocis and Whiten: ns\n\n| bases | permuted | kocis, and how many times as long |\n|---|---|---|\n");
+    for (const std::vector<unsigned> &bases : {SMALL_BASES, LARGE_BASES}) {
+        uint64_t out[6];
+        Case faure = halton(1, bases), kocis = halton(3, bases);
+        auto steps = [&](const Case &c) { bench_steps(c.bytes.data(), c.bytes.size(), 123456789, 1000, out, 6); };
+        row(faure.name.substr(faure.name.find(' ') + 1), {{"permuted", 1000, [&] { steps(faure); }}, {"kocis", 1000, [&] { steps(kocis); }}});
+    }
+}
+
 int main() {
     std::vector<Case> all = cases();
     for (const Case &c : all) {
@@ -503,4 +503,5 @@ int main() {
     axis_jumps();
     slots(all);
     calls(all);
+    permuted_steps();
 }

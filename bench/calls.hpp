@@ -36,14 +36,21 @@ static void put_bits(std::vector<uint8_t> &bytes, unsigned &at, unsigned width, 
     }
 }
 
-static Case halton(const char *name, int family, std::vector<unsigned> bases) {
-    Case c{name, {}, {}};
+// The families' names in the tables, by number, and the numbers of those of Halton.
+static const char *const FAMILIES[] = {"Halton", "permuted", "Sobol", "kocis"};
+static const int HALTON_FAMILIES[] = {0, 1, 3};
+
+static const std::vector<unsigned> SMALL_BASES = {2, 3, 5, 7, 11, 13}, LARGE_BASES = {256, 255, 253, 251, 247, 241};
+
+static Case halton(int family, const std::vector<unsigned> &bases) {
+    Case c{FAMILIES[family], {}, {}};
     unsigned at = 0;
     c.plan.family = family;
     c.plan.axes = (int)bases.size();
     put_bits(c.bytes, at, 2, (unsigned)family);
     put_bits(c.bytes, at, 3, (unsigned)bases.size());
     for (size_t i = 0; i < bases.size(); i++) {
+        c.name += " " + std::to_string(bases[i]);
         c.plan.base[i] = bases[i];
         put_bits(c.bytes, at, 8, bases[i] - 1);
     }

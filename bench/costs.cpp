@@ -72,8 +72,7 @@ static std::vector<Call> calls() {
 }
 
 static std::vector<Case> plans() {
-    return {halton("Halton 2 3 5", 0, {2, 3, 5}), halton("permuted 256 255 253 251 247 241", 1, {256, 255, 253, 251, 247, 241}),
-            sobol("Sobol, 6 axes", first(6)), six_of_degree_12()};
+    return {halton(0, {2, 3, 5}), halton(1, LARGE_BASES), halton(3, LARGE_BASES), sobol("Sobol, 6 axes", first(6)), six_of_degree_12()};
 }
 
 static void instructions() {
@@ -141,7 +140,7 @@ static size_t stack_of(bool after_use, std::function<void()> w) {
 
 // A count by strips goes deepest over the longest run on small bases, by cuts whose digits do not end.
 static size_t strips_stack() {
-    Case c = halton("", 0, {2, 3, 5, 7, 11, 13});
+    Case c = halton(0, SMALL_BASES);
     for (int a = 0; a < 6; a++) {
         lent()[2 * a] = 16777212;
         lent()[2 * a + 1] = 16777213;

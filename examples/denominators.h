@@ -6,7 +6,7 @@
 
 #include "hisowake.h"
 
-/* The denominator of a Halton axis, plain or permuted: the least power of its base that is 2^32 or more. 0 for 0 and 1, which are no bases. */
+/* The denominator of an axis of a Halton family: the least power of its base that is 2^32 or more. 0 for 0 and 1, which are no bases. */
 static inline uint64_t denominator_of_base(uint32_t base) {
     if (base < 2)
         return 0;

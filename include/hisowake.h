@@ -20,7 +20,7 @@
  *
  * A plan's bytes are fields of bits, most significant first, without gaps. Zero bits fill the last byte, and nothing follows it.
  *
- *   family         2 bits      0 Halton, 1 permuted Halton, 2 Sobol
+ *   family         2 bits      0 Halton, 1 permuted Halton (Faure's permutations), 2 Sobol, 3 Halton with the permutations of Kocis and Whiten
  *   axes           3 bits      how many axes follow, 1 to 6
  *   a Halton axis  8 bits      base minus 1; bases are 2 to 256, and no two share a factor
  *   a Sobol axis   4 bits      the degree d, 0 to 12; at 0, the plain binary axis, nothing follows
@@ -34,6 +34,7 @@
  *   halton 2 3         00 010 00000001 00000010 000           = 10 08 10
  *   permuted 4 9 25    01 011 00000011 00001000 00011000 000  = 58 18 40 C0
  *   sobol 0 11:1,3,7   10 010 0000 0011 01 1 11 111 000       = 90 1B F8
+ *   kocis 227 229      11 010 11100010 11100100 000           = D7 17 20
  */
 #ifndef HISOWAKE_H
 #define HISOWAKE_H
@@ -65,7 +66,7 @@ enum hisowake_code {
     HISOWAKE_OK = 0,
     /* of the plan's bytes */
     HISOWAKE_TRUNCATED = 1,           /* the bytes end before a field's last bit */
-    HISOWAKE_BAD_FAMILY = 2,          /* the family is 3 */
+    HISOWAKE_BAD_FAMILY = 2,          /* never given: every family is read (it was family 3 before family 3 had a meaning) */
     HISOWAKE_BAD_AXIS_COUNT = 3,      /* the number of axes is 0 or 7 */
     HISOWAKE_BAD_BASE = 4,            /* a base is 1 */
     HISOWAKE_COMMON_FACTOR = 5,       /* a base is not coprime to an earlier one */
@@ -92,7 +93,7 @@ enum hisowake_code {
  *   index            any number; 11 from 2^32 up
  *   out, out_len     8 bytes an axis or more; HISOWAKE_POINT_MAX are enough for every plan
  *
- * Refuses, in this order: 1 to 10 as the plan is read, field by field; 11; 13.
+ * Refuses, in this order: 1, 3 to 10 as the plan is read, field by field; 11; 13.
  */
 uint64_t hisowake_point(const uint8_t *plan, uint64_t plan_len, uint64_t index, uint8_t *out, uint64_t out_len);
 
@@ -112,7 +113,7 @@ uint64_t hisowake_point(const uint8_t *plan, uint64_t plan_len, uint64_t index, 
  *                        16,777,216 (2^24) and u is 0 to q; 14 for everything else
  *   out, out_len         HISOWAKE_COUNT_SIZE bytes or more
  *
- * Refuses, in this order: 1 to 10 as the plan is read, field by field; 11; 14; 13.
+ * Refuses, in this order: 1, 3 to 10 as the plan is read, field by field; 11; 14; 13.
  *
  * The time grows with count times the number of axes. The working arrays are 7.25 KiB of the stack: 4 KiB of flags and 3.25 KiB of tables.
  */

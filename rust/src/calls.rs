@@ -38,7 +38,7 @@ fn answer(code: u64) -> Result<(), Refusal> {
 ///
 /// # Errors
 ///
-/// Refusals, in this order: 1 to 10 as the plan is read, 11, 13.
+/// Refusals, in this order: 1, 3 to 10 as the plan is read, 11, 13.
 ///
 /// ```
 /// let mut out = [0; 8];
@@ -56,7 +56,7 @@ pub fn point(plan: &[u8], index: u64, out: &mut [u8]) -> Result<(), Refusal> {
 ///
 /// # Errors
 ///
-/// Refusals, in this order: 1 to 10 as the plan is read, 11, 14, 13.
+/// Refusals, in this order: 1, 3 to 10 as the plan is read, 11, 14, 13.
 ///
 /// ```
 /// let mut out = [0; 16];

@@ -36,12 +36,12 @@ pub enum ParseError {
 /// What the words of a plan or a cut have at a place.
 ///
 /// ```
-/// assert_eq!(hisowake::Expected::Family.to_string(), "halton, permuted or sobol");
+/// assert_eq!(hisowake::Expected::Family.to_string(), "halton, permuted, sobol or kocis");
 /// ```
 #[derive(Clone, Copy, Debug, PartialEq, Eq, Hash)]
 #[non_exhaustive]
 pub enum Expected {
-    /// The word of a family: `halton`, `permuted` or `sobol`.
+    /// The word of a family: `halton`, `permuted`, `sobol` or `kocis`.
     Family,
     /// A word for an axis, where the text ends.
     Axis,
@@ -62,7 +62,7 @@ pub enum Expected {
 impl fmt::Display for Expected {
     fn fmt(&self, f: &mut fmt::Formatter<'_>) -> fmt::Result {
         match *self {
-            Expected::Family => write!(f, "halton, permuted or sobol"),
+            Expected::Family => write!(f, "halton, permuted, sobol or kocis"),
             Expected::Axis => write!(f, "a word for an axis"),
             Expected::End => write!(f, "no more than {AXES_MAX} axes"),
             Expected::Base => write!(f, "a base from 2 to 256"),

@@ -23,7 +23,7 @@
 //!
 //! | Field | Bits | Holds |
 //! |---|---|---|
-//! | family | 2 | 0 Halton, 1 permuted Halton, 2 Sobol |
+//! | family | 2 | 0 Halton, 1 permuted Halton (Faure's permutations), 2 Sobol, 3 Halton with the permutations of Kocis and Whiten |
 //! | axes | 3 | how many axes follow, 1 to 6 |
 //! | a Halton axis | 8 | base minus 1; bases are 2 to 256, and no two share a factor |
 //! | a Sobol axis | 4 | the degree d, 0 to 12; at 0, the plain binary axis, nothing follows |
@@ -36,6 +36,7 @@
 //! halton 2 3         00 010 00000001 00000010 000           = 10 08 10
 //! permuted 4 9 25    01 011 00000011 00001000 00011000 000  = 58 18 40 C0
 //! sobol 0 11:1,3,7   10 010 0000 0011 01 1 11 111 000       = 90 1B F8
+//! kocis 227 229      11 010 11100010 11100100 000           = D7 17 20
 //! ```
 //!
 //! In words a plan is its family and a word for each axis: a base, or for Sobol `0`, the plain binary axis, or the polynomial as a number, a
@@ -47,6 +48,7 @@
 //! assert_eq!(Plan::read(&[0b00_010_000, 0b00001_000, 0b00010_000])?.to_string(), "halton 2 3");
 //! assert_eq!(Plan::read(&[0b01_011_000, 0b00011_000, 0b01000_000, 0b11000_000])?.to_string(), "permuted 4 9 25");
 //! assert_eq!(Plan::read(&[0b10_010_000, 0b0_0011_01_1, 0b11_111_000])?.to_string(), "sobol 0 11:1,3,7");
+//! assert_eq!(Plan::read(&[0b11_010_111, 0b00010_111, 0b00100_000])?.to_string(), "kocis 227 229");
 //! # Ok::<(), Refusal>(())
 //! ```
 //!

@@ -17,6 +17,7 @@ const INDEXES: u64 = 1 << 32;
 /// use hisowake::{Family, Plan, Refusal};
 ///
 /// assert_eq!(Plan::read(&[0x48, 0x20])?.family(), Family::Permuted);
+/// assert_eq!(Plan::read(&[0xC8, 0x48])?.family(), Family::Kocis);
 /// # Ok::<(), Refusal>(())
 /// ```
 #[derive(Clone, Copy, Debug, PartialEq, Eq, Hash)]
@@ -27,6 +28,8 @@ pub enum Family {
     Permuted = 1,
     /// Sobol's sequence.
     Sobol = 2,
+    /// The Halton sequence with the digit permutations of Kocis and Whiten.
+    Kocis = 3,
 }
 
 /// An accepted plan. It is made of bytes, by [`Plan::read`], or of words.
@@ -38,7 +41,7 @@ pub enum Family {
 /// assert_eq!(Ok(plan), "sobol 11:1,3,7".parse());
 /// assert_eq!(plan.axes(), 1);
 /// assert_eq!(*plan.point(4)?, [536870912]);
-/// assert_eq!(Plan::read(&[0xC8]), Err(Refusal::BadFamily));
+/// assert_eq!(Plan::read(&[0xC8]), Err(Refusal::Truncated)); // one axis, and no base
 /// # Ok::<(), Refusal>(())
 /// ```
 #[derive(Clone, Copy, PartialEq, Eq, Hash)]
@@ -52,7 +55,7 @@ impl Plan {
     ///
     /// # Errors
     ///
-    /// Refusals 1 to 10, as the bytes are read field by field.
+    /// Refusals 1 and 3 to 10, as the bytes are read field by field.
     ///
     /// ```
     /// use hisowake::{Plan, Refusal};
@@ -93,7 +96,8 @@ impl Plan {
         match field(&self.bytes, 0, 2) {
             0 => Family::Halton,
             1 => Family::Permuted,
-            _ => Family::Sobol,
+            2 => Family::Sobol,
+            _ => Family::Kocis,
         }
     }
 
@@ -110,7 +114,7 @@ impl Plan {
         field(&self.bytes, 2, 3) as usize
     }
 
-    /// The base of an axis of a Halton plan, plain or permuted.
+    /// The base of an axis of a plan of a Halton family.
     pub(crate) fn base(&self, axis: usize) -> u32 {
         field(&self.bytes, 5 + 8 * axis, 8) + 1
     }

@@ -15,7 +15,7 @@ use core::fmt;
 pub enum Refusal {
     /// The plan's bytes end before a field's last bit.
     Truncated = 1,
-    /// The family is 3.
+    /// Never given: every family is read. It was family 3 before family 3 had a meaning.
     BadFamily = 2,
     /// The number of axes is 0 or 7.
     BadAxisCount = 3,
@@ -42,7 +42,7 @@ pub enum Refusal {
 }
 
 impl Refusal {
-    /// Every refusal of the C calls, by number.
+    /// Every refusal of the C header, by number.
     ///
     /// ```
     /// let numbers: Vec<u64> = hisowake::Refusal::ALL.iter().map(|r| r.number()).collect();
@@ -90,7 +90,7 @@ impl Refusal {
     fn reason(self) -> &'static str {
         match self {
             Refusal::Truncated => "the plan's bytes end before a field's last bit",
-            Refusal::BadFamily => "the family is 3",
+            Refusal::BadFamily => "never given, since every family is read",
             Refusal::BadAxisCount => "the number of axes is 0 or 7",
             Refusal::BadBase => "a base is 1",
             Refusal::CommonFactor => "a base is not coprime to an earlier one",

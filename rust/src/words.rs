@@ -43,7 +43,7 @@ fn told_at(refusal: Refusal, word: &str) -> usize {
 
 /// The family of a word.
 fn family_of(word: &str) -> Option<Family> {
-    [Family::Halton, Family::Permuted, Family::Sobol].into_iter().find(|family| family.word() == word)
+    [Family::Halton, Family::Permuted, Family::Sobol, Family::Kocis].into_iter().find(|family| family.word() == word)
 }
 
 impl Family {
@@ -52,11 +52,12 @@ impl Family {
             Family::Halton => "halton",
             Family::Permuted => "permuted",
             Family::Sobol => "sobol",
+            Family::Kocis => "kocis",
         }
     }
 }
 
-/// The family's word: `halton`, `permuted` or `sobol`.
+/// The family's word: `halton`, `permuted`, `sobol` or `kocis`.
 impl fmt::Display for Family {
     fn fmt(&self, f: &mut fmt::Formatter<'_>) -> fmt::Result {
         f.pad(self.word())
@@ -142,9 +143,9 @@ impl Draft {
     }
 }
 
-/// Reads a plan's words: the family, `halton`, `permuted` or `sobol`, and a word for each axis, with spaces or tabs between them. A Halton axis
-/// is its base. A Sobol axis is `0`, the plain binary one, or its polynomial as a number, a colon, and its m's with commas between them. Numbers
-/// are in decimal and may have zeros in front. These are the plans of the texts that the programs `weights` and `plot` read.
+/// Reads a plan's words: the family, `halton`, `permuted`, `sobol` or `kocis`, and a word for each axis, with spaces or tabs between them. A
+/// Halton axis is its base. A Sobol axis is `0`, the plain binary one, or its polynomial as a number, a colon, and its m's with commas between
+/// them. Numbers are in decimal and may have zeros in front. These are the plans of the texts that the programs `weights` and `plot` read.
 ///
 /// The words become bytes, and the plan is what [`Plan::read`] makes of them: after each axis, so that an error says which is refused.
 ///
@@ -154,6 +155,7 @@ impl Draft {
 /// assert_eq!("halton 2 3".parse::<Plan>()?.bytes(), [0x10, 0x08, 0x10]);
 /// assert_eq!("permuted 4 9 25".parse::<Plan>()?.bytes(), [0x58, 0x18, 0x40, 0xC0]);
 /// assert_eq!("sobol 0 11:1,3,7".parse::<Plan>()?.bytes(), [0x90, 0x1B, 0xF8]); // x^3 + x + 1 is 8 + 2 + 1
+/// assert_eq!("kocis 227 229".parse::<Plan>()?.bytes(), [0xD7, 0x17, 0x20]);
 /// # Ok::<(), ParseError>(())
 /// ```
 impl FromStr for Plan {

@@ -1,6 +1,7 @@
 //! The words of plans are those of the proved builder: the lines of the program `builds` are plans here if and only if they are plans there, and
 //! the same ones.
 use hisowake::Plan;
+use std::collections::HashSet;
 
 const SOURCE: &str = include_str!("../../crates/builds/src/main.rt");
 const STDOUT: &str = include_str!("../../crates/builds/stdout");
@@ -34,11 +35,12 @@ fn every_line_is_answered() {
 
 #[test]
 fn the_same_plans() {
-    let (mut plans, mut others) = (0, 0);
+    let (mut plans, mut others, mut families) = (0, 0, HashSet::new());
     for (line, answer) in answers() {
         match (&answer[..], line.parse::<Plan>()) {
             ([bytes, words], Ok(plan)) => {
                 plans += 1;
+                families.insert(plan.family());
                 assert_eq!(&plan.bytes().iter().map(|byte| format!("{byte:02x}")).collect::<String>(), bytes, "{line}");
                 assert_eq!(&plan.to_string(), words, "{line}");
             }
@@ -47,5 +49,5 @@ fn the_same_plans() {
             (answer, parsed) => panic!("{line}: {answer:?} there, {parsed:?} here"),
         }
     }
-    assert!(plans > 5 && others > 30);
+    assert!(plans > 5 && others > 30 && families.len() == 4);
 }

@@ -1,5 +1,5 @@
-//! The C header and this crate have the same version, sizes and refusals.
-use hisowake::{Refusal, AXES_MAX, PLAN_MAX};
+//! The C header and this crate have the same version, sizes and refusals, and the plans that the header spells are those of this crate.
+use hisowake::{Family, Plan, Refusal, AXES_MAX, PLAN_MAX};
 
 const HEADER: &str = include_str!("../../include/hisowake.h");
 
@@ -39,4 +39,20 @@ fn refusals() {
     let mut known = vec![("Ok".to_string(), 0)];
     known.extend(Refusal::ALL.map(|refusal| (format!("{refusal:?}"), refusal.number())));
     assert_eq!(codes, known);
+}
+
+/// One of each family: words, then bits, and `=` before the bytes.
+#[test]
+fn spelled_plans() {
+    let spelled = |line: &'static str| -> Option<(&str, &str)> {
+        let (left, bytes) = line.strip_prefix(" *   ")?.split_once(" = ")?;
+        Some((left.split_once("   ")?.0, bytes))
+    };
+    let mut families = Vec::new();
+    for (words, bytes) in HEADER.lines().filter_map(spelled) {
+        let plan: Plan = words.parse().unwrap();
+        assert_eq!(plan.bytes().iter().map(|byte| format!("{byte:02X}")).collect::<Vec<_>>().join(" "), bytes, "{words}");
+        families.push(plan.family());
+    }
+    assert_eq!(families, [Family::Halton, Family::Permuted, Family::Sobol, Family::Kocis]);
 }

@@ -7,6 +7,7 @@ const END: u64 = 4294967296;
 const HALTON_6: &[u8] = &[0x30, 0x08, 0x10, 0x20, 0x30, 0x50, 0x60];
 const PERMUTED_6: &[u8] = &[0x77, 0xFA, 0x83, 0xE1, 0x83, 0xC5, 0x40];
 const SOBOL_6: &[u8] = &[0xB0, 0x0C, 0xBC, 0xDF, 0xD0, 0xDB, 0x78, 0x0A, 0x7D, 0x74, 0x96, 0x34, 0x3C, 0x22, 0x09, 0x81, 0x50, 0x17];
+const KOCIS_6: &[u8] = &[0xF7, 0xFA, 0x83, 0xE1, 0x83, 0xC5, 0x40];
 
 fn plan(bytes: &[u8]) -> Plan {
     Plan::read(bytes).expect("an accepted plan")
@@ -14,9 +15,11 @@ fn plan(bytes: &[u8]) -> Plan {
 
 #[test]
 fn what_a_plan_says_of_itself() {
-    for (bytes, family) in [(HALTON_6, Family::Halton), (PERMUTED_6, Family::Permuted), (SOBOL_6, Family::Sobol)] {
+    let plans = [(HALTON_6, Family::Halton), (PERMUTED_6, Family::Permuted), (SOBOL_6, Family::Sobol), (KOCIS_6, Family::Kocis)];
+    for (bytes, family) in plans {
         let p = plan(bytes);
         assert_eq!((p.bytes(), p.family(), p.axes()), (bytes, family, AXES_MAX));
+        assert_eq!(family as u8, bytes[0] >> 6);
         assert_eq!(p.denominator(AXES_MAX), None);
     }
     // a base of each number of digits in the scope's list, and both ends of the field
@@ -25,15 +28,17 @@ fn what_a_plan_says_of_itself() {
         let p = plan(&[0x08 | field >> 5, field << 3]);
         assert_eq!(p.denominator(0), Some(base.pow(depth)));
     }
-    let denominators: Vec<_> = (0..6).map(|axis| plan(PERMUTED_6).denominator(axis).unwrap()).collect();
-    assert_eq!(denominators, [256u64.pow(4), 81u64.pow(6), 125u64.pow(5), 49u64.pow(6), 121u64.pow(5), 169u64.pow(5)]);
+    for bytes in [PERMUTED_6, KOCIS_6] {
+        let denominators: Vec<_> = (0..6).map(|axis| plan(bytes).denominator(axis).unwrap()).collect();
+        assert_eq!(denominators, [256u64.pow(4), 81u64.pow(6), 125u64.pow(5), 49u64.pow(6), 121u64.pow(5), 169u64.pow(5)]);
+    }
     assert!((0..6).all(|axis| plan(SOBOL_6).denominator(axis) == Some(END)));
 }
 
 /// Every point is what the call on bytes writes, below its denominators.
 #[test]
 fn points() {
-    for bytes in [HALTON_6, PERMUTED_6, SOBOL_6] {
+    for bytes in [HALTON_6, PERMUTED_6, SOBOL_6, KOCIS_6] {
         let p = plan(bytes);
         for index in (0..1000).chain(END - 1000..END) {
             let mut out = [0; 8 * AXES_MAX];
@@ -49,7 +54,7 @@ fn points() {
 /// A run's points are those of its indexes, in order, and as many.
 #[test]
 fn runs() {
-    for bytes in [HALTON_6, PERMUTED_6, SOBOL_6] {
+    for bytes in [HALTON_6, PERMUTED_6, SOBOL_6, KOCIS_6] {
         let p = plan(bytes);
         for (start, count) in [(0, 0), (0, 1), (5, 1000), (END - 300, 300), (END - 1, 1), (END, 0)] {
             let points = p.points(start, count).unwrap();
@@ -72,14 +77,14 @@ fn runs() {
 
 #[test]
 fn plans_as_keys() {
-    let bytes = [HALTON_6, PERMUTED_6, SOBOL_6, HALTON_6];
+    let bytes = [HALTON_6, PERMUTED_6, SOBOL_6, KOCIS_6, HALTON_6];
     let plans: HashSet<_> = bytes.into_iter().map(|bytes| Plan::try_from(bytes).unwrap()).collect();
-    assert_eq!(plans.len(), 3);
+    assert_eq!(plans.len(), 4);
     assert!(plans.contains(&plan(SOBOL_6)));
     let points: HashSet<_> = plan(HALTON_6).points(0, 1000).unwrap().collect();
     assert_eq!(points.len(), 1000);
     assert_eq!([Cut::new(1, 2), Cut::new(2, 4), Cut::new(1, 2)].into_iter().collect::<HashSet<_>>().len(), 2);
-    assert_eq!(Plan::try_from(&[0xC8][..]), Err(Refusal::BadFamily));
+    assert_eq!(Plan::try_from(&[0xC8][..]), Err(Refusal::Truncated));
 }
 
 #[test]
@@ -87,15 +92,16 @@ fn counts() {
     let r7 = plan(&[0x10, 0x08, 0x10]);
     assert_eq!(r7.count(0, 6, &[Cut::new(1, 2), Cut::new(1, 3)]), Ok(Count { inside: 1, bound: 20 }));
     assert_eq!(r7.count(END, 0, &[Cut::new(1, 2); 2]), Ok(Count { inside: 0, bound: 1 }));
+    assert_eq!(plan(&[0xC8, 0x48]).count(0, 10, &[Cut::new(3, 10)]), Ok(Count { inside: 3, bound: 19 })); // digits 0, 3 and 5
     assert_eq!(plan(SOBOL_6).count(5, 3000, &[Cut::new(7, 7); 6]), Ok(Count { inside: 3000, bound: 0 }));
     assert_eq!(plan(SOBOL_6).count(5, 3000, &[Cut::new(0, 7); 6]), Ok(Count { inside: 0, bound: 0 }));
 }
 
 #[test]
 fn refused_plans() {
-    let refused: [(&[u8], Refusal); 11] = [
+    let refused: [(&[u8], Refusal); 16] = [
         (&[], Refusal::Truncated),
-        (&[0xC8], Refusal::BadFamily),
+        (&[0xC8], Refusal::Truncated),
         (&[0x38], Refusal::BadAxisCount),
         (&[0x08, 0x00], Refusal::BadBase),
         (&[0x10, 0x08, 0x18], Refusal::CommonFactor),
@@ -105,6 +111,12 @@ fn refused_plans() {
         (&[0x90, 0x00], Refusal::RepeatedPolynomial),
         (&[0x10, 0x08, 0x11], Refusal::TrailingData),
         (&[0x08, 0x08, 0x00], Refusal::TrailingData),
+        // of family 3
+        (&[0xC0], Refusal::BadAxisCount),
+        (&[0xF8], Refusal::BadAxisCount),
+        (&[0xC8, 0x00], Refusal::BadBase),
+        (&[0xD0, 0x08, 0x18], Refusal::CommonFactor),
+        (&[0xD0, 0x08, 0x11], Refusal::TrailingData),
     ];
     for (bytes, refusal) in refused {
         assert_eq!(Plan::read(bytes), Err(refusal));
@@ -113,6 +125,10 @@ fn refused_plans() {
     let mut long = HALTON_6.to_vec();
     long.resize(10 * PLAN_MAX, 0);
     assert_eq!(Plan::read(&long), Err(Refusal::TrailingData));
+    // the first byte has the family
+    for bytes in (0..=u16::MAX).map(u16::to_be_bytes) {
+        assert!(Plan::read(&bytes[..1]) != Err(Refusal::BadFamily) && Plan::read(&bytes) != Err(Refusal::BadFamily));
+    }
 }
 
 #[test]

@@ -10,6 +10,7 @@ const R7: &[u8] = &[0x10, 0x08, 0x10];
 const HALTON_6: &[u8] = &[0x30, 0x08, 0x10, 0x20, 0x30, 0x50, 0x60];
 const PERMUTED_6: &[u8] = &[0x77, 0xFA, 0x83, 0xE1, 0x83, 0xC5, 0x40];
 const SOBOL_6: &[u8] = &[0xB0, 0x0C, 0xBC, 0xDF, 0xD0, 0xDB, 0x78, 0x0A, 0x7D, 0x74, 0x96, 0x34, 0x3C, 0x22, 0x09, 0x81, 0x50, 0x17];
+const KOCIS_6: &[u8] = &[0xF7, 0xFA, 0x83, 0xE1, 0x83, 0xC5, 0x40];
 const HALVES: [(u32, u32); 6] = [(1, 2); 6];
 
 /// A window's bytes: u and then q for each axis.
@@ -63,8 +64,10 @@ fn reference_counts() {
     gives(R7, 1, 1, &[(1, 2), (1, 1)], 0, 6); // index 1 is (1/2, 1/3): on its cut
     gives(R7, 1, 1, &[(1, 1), (1, 3)], 0, 6);
     gives(R7, 1, 1, &[(MOST / 2 + 1, MOST), (MOST / 3 + 1, MOST)], 1, 6);
-    for k in 0..=25 {
-        gives(&[0x48, 0x20], 0, 25, &[(k, 25)], k as u64, 13); // the first 25 points of base 5 are the multiples of 1/25
+    for plan in [[0x48, 0x20], [0xC8, 0x20]] {
+        for k in 0..=25 {
+            gives(&plan, 0, 25, &[(k, 25)], k as u64, 13); // the first 25 points of base 5 are the multiples of 1/25
+        }
     }
     for k in 0..=8 {
         gives(&[0x89, 0xBF, 0x80], 0, 8, &[(k, 8)], k as u64, 0);
@@ -73,7 +76,7 @@ fn reference_counts() {
 
 #[test]
 fn all_or_none() {
-    for (plan, bound) in [(HALTON_6, 289036839), (PERMUTED_6, 241246526451735), (SOBOL_6, 0)] {
+    for (plan, bound) in [(HALTON_6, 289036839), (PERMUTED_6, 241246526451735), (SOBOL_6, 0), (KOCIS_6, 241246526451735)] {
         for start in [0, 1000000, END - 3000] {
             gives(plan, start, 3000, &[(1, 1), (7, 7), (MOST, MOST), (1, 1), (65537, 65537), (256, 256)], 3000, bound);
             gives(plan, start, 3000, &[(1, 1), (1, 1), (1, 1), (1, 1), (0, 1), (1, 1)], 0, bound);
@@ -87,7 +90,8 @@ fn all_or_none() {
 /// The count is the number of indexes whose point, as the other call writes it, is inside.
 #[test]
 fn counts_the_points() {
-    for (plan, bases) in [(HALTON_6, [2, 3, 5, 7, 11, 13]), (PERMUTED_6, [256, 81, 125, 49, 121, 169]), (SOBOL_6, [2; 6])] {
+    let large = [256, 81, 125, 49, 121, 169];
+    for (plan, bases) in [(HALTON_6, [2, 3, 5, 7, 11, 13]), (PERMUTED_6, large), (SOBOL_6, [2; 6]), (KOCIS_6, large)] {
         let denominators = bases.map(|b: u64| (0..).map(|k| b.pow(k)).find(|&d| d >= END).unwrap());
         for (start, count) in [(0, 1025), (123456789, 2048), (END - 1500, 1500)] {
             for cuts in [[(2, 3); 6], [(1, 2), (3, 4), (1, 1), (15, 16), (4, 5), (MOST - 1, MOST)]] {
@@ -110,7 +114,7 @@ fn counts_the_points() {
 
 #[test]
 fn plans_are_refused_first() {
-    let refused: [(&[u8], u64); 5] = [(&[], 1), (&SOBOL_6[..17], 1), (&[0xC8], 2), (&[0x10, 0x08, 0x18], 5), (&[0x10, 0x08, 0x11], 10)];
+    let refused: [(&[u8], u64); 5] = [(&[], 1), (&SOBOL_6[..17], 1), (&[0xC8], 1), (&[0x10, 0x08, 0x18], 5), (&[0x10, 0x08, 0x11], 10)];
     let window = bytes(&HALVES);
     for (plan, number) in refused {
         refuses(plan, 0, 6, &window[..16], 16, number);
@@ -141,12 +145,15 @@ fn then_the_range_the_window_and_the_room() {
         for axis in 0..6 {
             let mut cuts = HALVES;
             cuts[axis] = bad;
-            refuses(PERMUTED_6, END - 1, 1, &bytes(&cuts), 16, 14);
-            refuses(PERMUTED_6, END, 0, &bytes(&cuts), 0, 14);
+            for plan in [PERMUTED_6, KOCIS_6] {
+                refuses(plan, END - 1, 1, &bytes(&cuts), 16, 14);
+                refuses(plan, END, 0, &bytes(&cuts), 0, 14);
+            }
         }
     }
     for room in 0..16 {
         refuses(HALTON_6, 0, END, &window, room, 13);
         refuses(SOBOL_6, END, 0, &window, room, 13);
+        refuses(KOCIS_6, 0, END, &window, room, 13);
     }
 }

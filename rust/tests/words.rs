@@ -58,6 +58,7 @@ fn every_base() {
     for base in 2..=256 {
         spells(&format!("halton {base}"), &format!("00001{:08b}", base - 1));
         spells(&format!("permuted {base}"), &format!("01001{:08b}", base - 1));
+        spells(&format!("kocis {base}"), &format!("11001{:08b}", base - 1));
     }
 }
 
@@ -98,6 +99,7 @@ fn random_plans() {
         let bits: String = bases.iter().map(|b| format!("{:08b}", b - 1)).collect();
         spells(&format!("halton{words}"), &format!("00{axes:03b}{bits}"));
         spells(&format!("permuted{words}"), &format!("01{axes:03b}{bits}"));
+        spells(&format!("kocis{words}"), &format!("11{axes:03b}{bits}"));
 
         let mut polynomials: Vec<u64> = Vec::new();
         while polynomials.len() < axes {
@@ -133,14 +135,16 @@ fn expects(text: &str, what: Expected, at: usize, message: &str) {
 
 #[test]
 fn what_was_expected_and_where() {
-    let family = "halton, permuted or sobol";
+    let family = "halton, permuted, sobol or kocis";
     for (text, at) in
         [("", 0), ("   ", 3), ("Halton 2", 0), (" haltons 2", 1), ("2 3", 0), ("\u{e9} 2", 0), ("halton\u{a0}2", 0), ("halton\n2", 0)]
     {
         expects(text, Expected::Family, at, family);
     }
+    expects(" Kocis 2", Expected::Family, 1, family);
     expects("halton", Expected::Axis, 6, "a word for an axis");
     expects("sobol ", Expected::Axis, 6, "a word for an axis");
+    expects("kocis", Expected::Axis, 5, "a word for an axis");
     expects("halton 2 3 5 7 11 13 17", Expected::End, 21, "no more than 6 axes");
     for base in ["0", "257", "+2", "-2", "2.0", "0x2", "2,3", "4294967298", "99999999999999999999", "\u{662}", "x", "2\n", "2\r"] {
         expects(&format!("permuted 3 {base}"), Expected::Base, 11, "a base from 2 to 256");
@@ -168,6 +172,8 @@ fn what_was_refused_and_where() {
         ("halton 2 3 1 x", Refusal::BadBase, 11),
         ("halton 2 4", Refusal::CommonFactor, 9),
         ("permuted 6 5 9 7", Refusal::CommonFactor, 13),
+        ("kocis 1", Refusal::BadBase, 6),
+        ("kocis 6 5 9 7", Refusal::CommonFactor, 10),
         ("sobol 5:1,1", Refusal::NotPrimitive, 6),
         ("sobol 0 31:1,1,1,1", Refusal::NotPrimitive, 8),
         ("sobol 2:1", Refusal::NotPrimitive, 6),
@@ -191,8 +197,8 @@ fn what_was_refused_and_where() {
 fn any_text() {
     let mut random = Random(7);
     let parts = [
-        "halton", "permuted", "sobol", " ", " ", " ", "0", "1", "2", "3", "5", "11", "257", "8191", ":", ",", "1,3,7", "\t", "\u{e9}", "-",
-        "\0",
+        "halton", "permuted", "sobol", "kocis", " ", " ", " ", "0", "1", "2", "3", "5", "11", "257", "8191", ":", ",", "1,3,7", "\t",
+        "\u{e9}", "-", "\0",
     ];
     let mut plans = 0;
     for _ in 0..200000 {
@@ -234,7 +240,7 @@ fn widths() {
     let polynomials = primitive().into_iter().filter(|&p| degree(p) == 12).take(AXES_MAX);
     let longest = polynomials.fold(String::from("sobol"), |words, p| words + &axis(p, &most).0);
     assert_eq!(longest.len(), 287);
-    for words in [&longest, "halton 2 3", "sobol 0"] {
+    for words in [&longest, "halton 2 3", "sobol 0", "kocis 227 229"] {
         let plan: Plan = words.parse().unwrap();
         assert_eq!(format!("{plan:>300}|{plan:*^20}|{plan:12}|{plan}"), format!("{words:>300}|{words:*^20}|{words:12}|{words}"));
     }

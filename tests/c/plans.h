@@ -26,6 +26,9 @@ static struct plan plans[] = {
       {.degree = 12, .a = {0, 0, 0, 0, 0, 1, 1, 1, 1, 1, 0}, .m = {1, 1, 1, 1, 1, 1, 1, 1, 1, 1, 1, 1}},
       {.degree = 12, .a = {0, 0, 0, 0, 1, 0, 0, 1, 1, 0, 0}, .m = {1, 1, 1, 1, 1, 1, 1, 1, 1, 1, 1, 1}},
       {.degree = 12, .a = {0, 0, 0, 0, 1, 1, 0, 1, 0, 0, 0}, .m = {1, 1, 1, 1, 1, 1, 1, 1, 1, 1, 1, 1}}}},
+    {KOCIS, 6, {{.base = 256}, {.base = 255}, {.base = 253}, {.base = 251}, {.base = 247}, {.base = 241}}},
+    {KOCIS, 6, {{.base = 2}, {.base = 3}, {.base = 5}, {.base = 7}, {.base = 11}, {.base = 13}}},
+    {KOCIS, 6, {{.base = 243}, {.base = 17}, {.base = 121}, {.base = 49}, {.base = 13}, {.base = 250}}},
 };
 
 enum { PLANS = sizeof plans / sizeof plans[0] };

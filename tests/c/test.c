@@ -23,13 +23,16 @@ static int for_valgrind;
 
 // ---- points
 
+// One digit gives its image times b^(k-1), the value of the first place.
+static void images(const char *what, const uint8_t *plan, size_t plan_len, uint64_t base, const uint64_t *image, uint64_t place) {
+    for (uint64_t digit = 0; digit < base; digit++)
+        point(what, plan, plan_len, digit, 8, 0, NUMERATORS(image[digit] * place));
+}
+
 static void reference_points(void) {
     point("R1", BYTES(0x08, 0x10), 17, 8, 0, NUMERATORS(9685512225u));
     point("R2", BYTES(0x08, 0x08), 6, 8, 0, NUMERATORS(1610612736u));
-    // R3: one digit gives its image times 7^11
-    static const uint64_t image[7] = {0, 2, 5, 3, 1, 4, 6};
-    for (uint64_t digit = 0; digit < 7; digit++)
-        point("R3", BYTES(0x48, 0x30), digit, 8, 0, NUMERATORS(image[digit] * 1977326743u));
+    images("R3", BYTES(0x48, 0x30), 7, (const uint64_t[]){0, 2, 5, 3, 1, 4, 6}, 1977326743u);
     point("R4", BYTES(0x48, 0x20), 6, 8, 0, NUMERATORS(4394531250u));
     // R5: index 2^i - 1 gives v_i, which is m_i * 2^(32 - i)
     static const uint64_t m[6] = {1, 3, 7, 5, 7, 43};
@@ -40,8 +43,23 @@ static void reference_points(void) {
     point("R7", BYTES(0x10, 0x08, 0x10), 1, 16, 0, NUMERATORS(2147483648u, 3486784401u));
 }
 
+// What document 001 prints of Kocis and Whiten's permutations: base 7, kw[10], kw[31], and kwscrhalton[3, 7], its seventh base alone.
+static void kocis_points(void) {
+    static const uint64_t base_7[] = {0, 4, 2, 6, 1, 5, 3}, kw_10[] = {0, 8, 4, 2, 6, 1, 9, 5, 3, 7};
+    static const uint64_t kw_31[] = {0, 16, 8, 24, 4, 20, 12, 28, 2, 18, 10, 26, 6, 22, 14, 30,
+                                     1, 17, 9, 25, 5, 21, 13, 29, 3, 19, 11, 27, 7, 23, 15};
+    images("base 7", BYTES(0xC8, 0x30), 7, base_7, 1977326743u);
+    images("kw[10]", BYTES(0xC8, 0x48), 10, kw_10, 1000000000u);
+    images("kw[31]", BYTES(0xC8, 0xF0), 31, kw_31, 887503681u);
+    // 3/4, 2/9, 1/5, 6/7, 2/11, 12/13 and 4/17
+    point("kwscrhalton[3, 7]", BYTES(0xF0, 0x08, 0x10, 0x20, 0x30, 0x50, 0x60), 3, 48, 0,
+          NUMERATORS(3221225472u, 2324522934u, 1220703125u, 11863960458u, 4715895382u, 9788768652u));
+    point("kwscrhalton[3, 7]", BYTES(0xC8, 0x80), 3, 8, 0, NUMERATORS(1641354692u));
+}
+
 static const uint8_t HALTON_6[] = {0x30, 0x08, 0x10, 0x20, 0x30, 0x50, 0x60};
 static const uint8_t PERMUTED_6[] = {0x77, 0xFF, 0xF7, 0xE7, 0xD7, 0xB7, 0x80};
+static const uint8_t KOCIS_6[] = {0xF7, 0xFF, 0xF7, 0xE7, 0xD7, 0xB7, 0x80};
 static const uint8_t SOBOL_6[] = {0xB0, 0x0C, 0xBC, 0xDF, 0xD0, 0xDB, 0x78, 0x0A, 0x7D, 0x74,
                                   0x96, 0x34, 0x3C, 0x22, 0x09, 0x81, 0x50, 0x17};
 // six axes of degree 12, all m's 1: the longest plan
@@ -58,6 +76,8 @@ static void six_axes(void) {
           NUMERATORS(4294967295u, 2132907247u, 1060315563u, 7479082473u, 8243781525u, 7070012799u));
     point("six permuted bases, the last index", PERMUTED_6, sizeof PERMUTED_6, LAST, 48, 0,
           NUMERATORS(4294967295u, 545112799u, 306102955882u, 246099178378u, 863879232501u, 760466417015u));
+    point("six kocis bases, the last index", KOCIS_6, sizeof KOCIS_6, LAST, 48, 0,
+          NUMERATORS(4294967295u, 536854688u, 41852937012u, 881151589479u, 420955445454u, 380616533684u));
     point("six polynomials, the last index", SOBOL_6, sizeof SOBOL_6, LAST, 48, 0,
           NUMERATORS(1u, 4294967295u, 3305133397u, 1342505107u, 1077097267u, 2113662991u));
     point("the longest plan", LONGEST, sizeof LONGEST, LAST, 48, 0,
@@ -94,6 +114,7 @@ static void multiples(void) {
     for (uint32_t k = 0; k <= 125; k++) {
         count("base 5", BYTES(0x08, 0x20), 0, 125, BYTES(CUT(k, 125)), 16, 0, k, 17);
         count("permuted base 5", BYTES(0x48, 0x20), 0, 125, BYTES(CUT(k, 125)), 16, 0, k, 17);
+        count("kocis base 5", BYTES(0xC8, 0x20), 0, 125, BYTES(CUT(k, 125)), 16, 0, k, 17);
         count("x^3 + x + 1", R5, 0, 128, BYTES(CUT(k, 128)), 16, 0, k, 0);
     }
     uint32_t n = for_valgrind ? 4096 : 1048576;
@@ -112,6 +133,7 @@ static void none(const char *what, const uint8_t *plan, size_t plan_len, uint64_
 static void edges(void) {
     none("count 0, Halton", HALTON_6, sizeof HALTON_6, 1);
     none("count 0, permuted", PERMUTED_6, sizeof PERMUTED_6, 1);
+    none("count 0, kocis", KOCIS_6, sizeof KOCIS_6, 1);
     none("count 0, Sobol", SOBOL_6, sizeof SOBOL_6, 0);
     count("the last index", BYTES(0x08, 0x08), LAST, 1, BYTES(CUT(1, 1)), 16, 0, 1, 2);
     count("the last index", BYTES(0x08, 0x08), LAST, 1, BYTES(CUT(16777215, 16777216)), 16, 0, 0, 2);
@@ -138,9 +160,9 @@ static void refused_plan(const char *what, const uint8_t *plan, size_t plan_len,
 static void refused_plans(void) {
     refused_plan("1: no bytes", NULL, 0, HISOWAKE_TRUNCATED);
     refused_plan("1: a base cut off", BYTES(0x08), HISOWAKE_TRUNCATED);
+    refused_plan("1: a kocis base cut off", BYTES(0xC8), HISOWAKE_TRUNCATED);
     for (size_t n = 0; n < sizeof LONGEST; n++)
         refused_plan("1: a front of a plan", LONGEST, n, HISOWAKE_TRUNCATED);
-    refused_plan("2", BYTES(0xC8), HISOWAKE_BAD_FAMILY);
     refused_plan("3: no axes", BYTES(0x00), HISOWAKE_BAD_AXIS_COUNT);
     refused_plan("3: seven axes", BYTES(0x38), HISOWAKE_BAD_AXIS_COUNT);
     refused_plan("4", BYTES(0x08, 0x00), HISOWAKE_BAD_BASE);
@@ -151,6 +173,20 @@ static void refused_plans(void) {
     refused_plan("9: degree 0 twice", BYTES(0x90, 0x00), HISOWAKE_REPEATED_POLYNOMIAL);
     refused_plan("10: a filling bit", BYTES(0x10, 0x08, 0x11), HISOWAKE_TRAILING_DATA);
     refused_plan("10: a byte follows", BYTES(0x08, 0x08, 0x00), HISOWAKE_TRAILING_DATA);
+}
+
+// Family 3 is refused as the other Halton families are, and never by 2: each of its first bytes alone lacks a base, or has no axes or seven.
+static void refused_kocis(void) {
+    for (int byte = 0xC0; byte <= 0xFF; byte++) {
+        int axes = byte >> 3 & 7;
+        refused_plan("kocis alone", BYTES((uint8_t)byte), axes == 0 || axes == 7 ? HISOWAKE_BAD_AXIS_COUNT : HISOWAKE_TRUNCATED);
+    }
+    for (size_t n = 0; n < sizeof KOCIS_6; n++)
+        refused_plan("1: a front of a kocis plan", KOCIS_6, n, HISOWAKE_TRUNCATED);
+    refused_plan("4, kocis", BYTES(0xC8, 0x00), HISOWAKE_BAD_BASE);
+    refused_plan("5: 2 and 4, kocis", BYTES(0xD0, 0x08, 0x18), HISOWAKE_COMMON_FACTOR);
+    refused_plan("10: a filling bit, kocis", BYTES(0xD0, 0x08, 0x11), HISOWAKE_TRAILING_DATA);
+    refused_plan("10: a byte follows, kocis", BYTES(0xC8, 0x08, 0x00), HISOWAKE_TRAILING_DATA);
 }
 
 static void refused_points(void) {
@@ -196,6 +232,7 @@ static void bad_cut(struct cut bad) {
         count("14", HALTON_6, sizeof HALTON_6, 0, 10, window, 48, 16, REFUSED(14));
         count("14", SOBOL_6, sizeof SOBOL_6, END, 0, window, 48, OUT_MAX, REFUSED(14));
         count("14 before 13", PERMUTED_6, sizeof PERMUTED_6, LAST, 1, window, 48, 15, REFUSED(14));
+        count("14 before 13", KOCIS_6, sizeof KOCIS_6, LAST, 1, window, 48, 15, REFUSED(14));
         count("14 before 13", SOBOL_6, sizeof SOBOL_6, 0, 10, window, 48, 0, REFUSED(14));
     }
 }
@@ -220,6 +257,7 @@ static void refused_windows(void) {
     for (size_t n = 0; n < 16; n++) {
         count("13", HALTON_6, sizeof HALTON_6, 0, 10, WINDOW, 48, n, REFUSED(13));
         count("13", PERMUTED_6, sizeof PERMUTED_6, LAST, 1, WINDOW, 48, n, REFUSED(13));
+        count("13", KOCIS_6, sizeof KOCIS_6, LAST, 1, WINDOW, 48, n, REFUSED(13));
         count("13", SOBOL_6, sizeof SOBOL_6, END, 0, WINDOW, 48, n, REFUSED(13));
     }
 }
@@ -249,8 +287,9 @@ static void reference_itself(void) {
     } known[] = {{0, HALTON_6, sizeof HALTON_6},
                  {2, PERMUTED_6, sizeof PERMUTED_6},
                  {5, SOBOL_6, sizeof SOBOL_6},
-                 {6, LONGEST, sizeof LONGEST}};
-    for (int i = 0; i < 4; i++) {
+                 {6, LONGEST, sizeof LONGEST},
+                 {7, KOCIS_6, sizeof KOCIS_6}};
+    for (int i = 0; i < 5; i++) {
         uint8_t bytes[PLAN_MAX] = {0};
         check(plan_bytes(&plans[known[i].plan], bytes) == known[i].len && memcmp(bytes, known[i].bytes, known[i].len) == 0, "plan bytes", 0);
     }
@@ -315,10 +354,11 @@ static void header_plans(void) {
         {HALTON, 2, {{.base = 2}, {.base = 3}}},
         {PERMUTED, 3, {{.base = 4}, {.base = 9}, {.base = 25}}},
         {SOBOL, 2, {{.degree = 0}, {.degree = 3, .a = {0, 1}, .m = {1, 3, 7}}}},
+        {KOCIS, 2, {{.base = 227}, {.base = 229}}},
     };
-    static const uint8_t known[][4] = {{0x10, 0x08, 0x10}, {0x58, 0x18, 0x40, 0xC0}, {0x90, 0x1B, 0xF8}};
-    static const size_t lengths[] = {3, 4, 3};
-    for (int i = 0; i < 3; i++) {
+    static const uint8_t known[][4] = {{0x10, 0x08, 0x10}, {0x58, 0x18, 0x40, 0xC0}, {0x90, 0x1B, 0xF8}, {0xD7, 0x17, 0x20}};
+    static const size_t lengths[] = {3, 4, 3, 3};
+    for (int i = 0; i < FAMILIES; i++) {
         uint8_t bytes[PLAN_MAX] = {0};
         uint64_t x[6];
         complete(&spelled[i]);
@@ -391,11 +431,13 @@ int main(int argc, char **argv) {
         complete(&plans[i]);
 
     reference_points();
+    kocis_points();
     six_axes();
     reference_counts();
     multiples();
     edges();
     refused_plans();
+    refused_kocis();
     refused_points();
     refused_runs();
     refused_windows();

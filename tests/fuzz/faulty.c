@@ -9,7 +9,9 @@ enum fault {
     ROOM_BEFORE_WINDOW,
     READS_PAST_THE_PLAN,
     READS_BEFORE_THE_PLAN,
-    BOUND_OF_THE_LAST_INDEX
+    BOUND_OF_THE_LAST_INDEX,
+    REFUSES_KOCIS,
+    FAURE_FOR_KOCIS
 };
 
 // Writes an answer's words to the front of `out`.
@@ -37,6 +39,12 @@ uint64_t hisowake_point(const uint8_t *plan, uint64_t plan_len, uint64_t index, 
     stray_read(plan, plan_len);
     if (FAULT == WRONG_LAST_DIGIT && r.words == AXES_MAX && index > 1000000)
         r.word[AXES_MAX - 1] ^= 1;
+    if (FAULT == REFUSES_KOCIS && plan_len > 0 && plan[0] >> 6 == KOCIS)
+        r = (struct answer){.code = 2};
+    if (FAULT == FAURE_FOR_KOCIS && r.code == 0 && r.plan.family == KOCIS) {
+        r.plan.family = PERMUTED;
+        point_of(&r.plan, index, r.word);
+    }
     return write_answer(r, out, out_len);
 }
 

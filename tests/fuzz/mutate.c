@@ -56,7 +56,7 @@ static int fits(const struct plan *p, int i) {
 }
 
 static struct plan random_plan(void) {
-    struct plan p = {.family = (enum family)below(3), .axes = 1 + (int)below(AXES_MAX)};
+    struct plan p = {.family = (enum family)below(FAMILIES), .axes = 1 + (int)below(AXES_MAX)};
     for (int i = 0; i < p.axes; i++)
         do
             p.axis[i] = p.family == SOBOL ? random_polynomial() : random_base_axis();

@@ -2,14 +2,14 @@
 
 #include <stdio.h>
 
-static const char *const CALLS[] = {"point", "count"}, *const FAMILIES[] = {"Halton", "permuted", "Sobol"};
+static const char *const CALLS[] = {"point", "count"}, *const NAMES[] = {"Halton", "permuted", "Sobol", "Kocis"};
 
 // the edges of an accepted count, and of a refused one
 enum edge { NO_POINTS, RUN_TO_THE_END, NONE_INSIDE, SOME_INSIDE, ALL_INSIDE, SUM_WRAPS, EDGES };
 static const char *const EDGE_NAMES[] = {"run of no points", "run that ends at 2^32", "none inside", "some inside", "all inside",
                                          "start + count above 2^64"};
 
-static unsigned long refused[2][15], accepted[2][3][AXES_MAX + 1], base[2][257], degree[DEGREE_MAX + 1], edge[EDGES];
+static unsigned long refused[2][15], accepted[2][FAMILIES][AXES_MAX + 1], base[FAMILIES][257], degree[DEGREE_MAX + 1], edge[EDGES];
 
 static void note_edges(const struct input *in, const struct answer *r) {
     uint64_t s = r->word[0];
@@ -54,18 +54,20 @@ static void report_row(const char *what, const char *of, const unsigned long *ro
             printf("fuzz: not reached: %s %s %d\n", what, of, i);
 }
 
-static int given_by_point(int code) { return code != HISOWAKE_BAD_WINDOW && code != 12; }
-static int given_by_count(int code) { return code != 12; }
+// 2 is never given, and 12 by the calls on a state alone.
+static int given_by_count(int code) { return code != 2 && code != 12; }
+static int given_by_point(int code) { return code != HISOWAKE_BAD_WINDOW && given_by_count(code); }
 
 void report_reached(void) {
     for (int call = POINT; call <= COUNT; call++) {
         report_row(CALLS[call], "refused", refused[call], 1, 14, call == POINT ? given_by_point : given_by_count);
-        for (int family = HALTON; family <= SOBOL; family++)
-            report_row(CALLS[call], FAMILIES[family], accepted[call][family], 1, AXES_MAX, NULL);
+        for (int family = 0; family < FAMILIES; family++)
+            report_row(CALLS[call], NAMES[family], accepted[call][family], 1, AXES_MAX, NULL);
     }
-    for (int family = HALTON; family <= PERMUTED; family++)
-        report_row("base", FAMILIES[family], base[family], 2, 256, NULL);
-    report_row("degree", FAMILIES[SOBOL], degree, 0, DEGREE_MAX, NULL);
+    for (int family = 0; family < FAMILIES; family++)
+        if (family != SOBOL)
+            report_row("base", NAMES[family], base[family], 2, 256, NULL);
+    report_row("degree", NAMES[SOBOL], degree, 0, DEGREE_MAX, NULL);
     for (int i = 0; i < EDGES; i++)
         printf(edge[i] ? "fuzz: %s: %lu\n" : "fuzz: not reached: %s, %lu\n", EDGE_NAMES[i], edge[i]);
     fflush(stdout);

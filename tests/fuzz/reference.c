@@ -155,8 +155,6 @@ static uint64_t read_head(struct bits *b, struct plan *p) {
     uint64_t field, code = take(b, 2, &field);
     if (code)
         return code;
-    if (field == 3)
-        return HISOWAKE_BAD_FAMILY;
     p->family = (enum family)field;
     if ((code = take(b, 3, &field)))
         return code;
@@ -202,15 +200,40 @@ static uint64_t faure(uint64_t b, uint64_t k) {
     return r < c ? r : r + 1;
 }
 
-// The same, each base's images kept once they are known.
-static uint64_t image(uint64_t b, uint64_t k) {
-    static uint8_t images[257][256], known[257];
-    if (!known[b]) {
-        for (uint64_t i = 0; i < b; i++)
-            images[b][i] = (uint8_t)faure(b, i);
-        known[b] = 1;
+static void faure_images(uint64_t b, uint8_t *images) {
+    for (uint64_t k = 0; k < b; k++)
+        images[k] = (uint8_t)faure(b, k);
+}
+
+// The van der Corput number of n in base 2, times 2^d: the d bits of n, the lowest first.
+static uint64_t mirrored(uint64_t n, int d) {
+    uint64_t x = 0;
+    for (int j = 0; j < d; j++)
+        x = 2 * x + (n >> j & 1);
+    return x;
+}
+
+// Kocis and Whiten's permutation of base b: the van der Corput numbers of 0 to 2^d - 1 times 2^d, with the least d for which 2^d is b or more,
+// and those at or above b dropped.
+static void kocis_images(uint64_t b, uint8_t *images) {
+    int d = 0;
+    while (1ull << d < b)
+        d++;
+    for (uint64_t n = 0; n < 1ull << d; n++) {
+        uint64_t x = mirrored(n, d);
+        if (x < b)
+            *images++ = (uint8_t)x;
     }
-    return images[b][k];
+}
+
+// The image of digit k in a permuted family, each base's images kept once they are known.
+static uint64_t image(enum family family, uint64_t b, uint64_t k) {
+    static uint8_t images[FAMILIES][257][256], known[FAMILIES][257];
+    if (!known[family][b]) {
+        (family == KOCIS ? kocis_images : faure_images)(b, images[family][b]);
+        known[family][b] = 1;
+    }
+    return images[family][b][k];
 }
 
 // b^k, with the least k that makes it 2^32 or more; 2^32 for a Sobol axis.
@@ -249,7 +272,7 @@ void complete(struct plan *p) {
 static uint64_t halton_numerator(const struct plan *p, int i, uint64_t n) {
     uint64_t b = p->axis[i].base, x = 0;
     for (uint64_t place = p->axis[i].denominator / b; place > 0; place /= b, n /= b)
-        x += place * (p->family == PERMUTED ? image(b, n % b) : n % b);
+        x += place * (p->family == HALTON ? n % b : image(p->family, b, n % b));
     return x;
 }
 

@@ -1,5 +1,5 @@
-// A slow reference for the calls of hisowake.h, written from 01-scope.md alone: plans as data, their bytes and the refusals of bytes in the
-// paper's order, points by their definitions, and counts that test every point of a run.
+// A slow reference for the calls of hisowake.h, written from 01-scope.md and K5 of the change requests alone: plans as data, their bytes and the
+// refusals of bytes in the paper's order, points by their definitions, and counts that test every point of a run.
 #ifndef REFERENCE_H
 #define REFERENCE_H
 
@@ -9,7 +9,7 @@
 
 enum { AXES_MAX = 6, DEGREE_MAX = 12, PLAN_MAX = 71, WINDOW_MAX = 8 * AXES_MAX };
 
-enum family { HALTON, PERMUTED, SOBOL };
+enum family { HALTON, PERMUTED, SOBOL, KOCIS, FAMILIES };
 
 struct axis {
     uint64_t base;                             // of a Halton axis

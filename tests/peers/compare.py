@@ -5,6 +5,7 @@ import random
 import sys
 import time
 from collections import Counter
+from fractions import Fraction
 from functools import partial
 
 import outside
@@ -13,15 +14,19 @@ import reference
 import windows
 from day_sets import day_sets
 from library import Careless, Library, WrongCount, WrongPoint, WrongRefusal
-from reference import HALTON, PERMUTED, SOBOL, Plan
+from reference import HALTON, KOCIS, PERMUTED, READING_REFUSALS, SOBOL, Plan
 from strips import strips
-from verdict import Disagreement, same_answer
+from verdict import Disagreement, agree, same_answer
 
 BASES = range(2, 257)
 # the first six axes of Bratley and Fox, of Joe and Kuo, and of the primes
 BRATLEY_FOX = bytes.fromhex("b00cb4dfceb50f22")
 JOE_KUO = bytes.fromhex("b00cbcde4ea50d66")
 PRIMES = plans.bytes_of(Plan(HALTON, outside.PRIMES))
+# what document 001 prints of Kocis and Whiten's permutations: those of two bases, the indexes 1 to 6 in base 7, and kwscrhalton[3, 7]
+KW = {10: "0 8 4 2 6 1 9 5 3 7", 31: "0 16 8 24 4 20 12 28 2 18 10 26 6 22 14 30 1 17 9 25 5 21 13 29 3 19 11 27 7 23 15"}
+KW_BASE_7 = "4/7 2/7 6/7 1/7 5/7 3/7"
+KW_INDEX_3 = {2: "3/4", 3: "2/9", 5: "1/5", 7: "6/7", 11: "2/11", 13: "12/13", 17: "4/17"}
 
 
 def same_points(library, peer, data, first, rows):
@@ -78,11 +83,36 @@ def first_axes(library, peers, rng):
     return tally
 
 
-def reference_points(library, peers, rng):
-    """Permuted Halton in every base, and random plans of every family."""
+def stk(library, peers, rng):
+    """Family 3 with octave-stk's points: every prime base alone, all images of a first digit and more, and random plans of prime bases."""
     tally = Counter()
-    chosen = [Plan(PERMUTED, (base,)) for base in BASES] * 2
-    chosen += [plans.random_plan(rng, PERMUTED) for _ in range(400)] + [plans.random_plan(rng) for _ in range(200)]
+    singles = [Plan(KOCIS, (base,)) for base in outside.STK_BASES]
+    for plan in singles + [Plan(KOCIS, tuple(rng.sample(outside.STK_BASES, rng.randint(1, 6)))) for _ in range(200)]:
+        data, base = plans.bytes_of(plan), rng.choice(plan.axes)
+        tally["points"] += same_points(library, "octave-stk", data, 0, outside.stk_halton(plan.axes, 0, 2 * base))
+        for first in [base**2 - 2] + [rng.randint(0, outside.STK_INDEXES - 4) for _ in range(100)]:
+            tally["points"] += same_points(library, "octave-stk", data, first, outside.stk_halton(plan.axes, first, 4))
+    return tally
+
+
+def printed_permutations():
+    """The reference has what document 001 prints."""
+    for base, images in KW.items():
+        agree(f"document 001, base {base}", reference.images(KOCIS, base), tuple(map(int, images.split())))
+    printed = [(7, index, fraction) for index, fraction in enumerate(KW_BASE_7.split(), 1)]
+    for base, index, fraction in printed + [(base, 3, fraction) for base, fraction in KW_INDEX_3.items()]:
+        plan = Plan(KOCIS, (base,))
+        here = Fraction(*reference.point(plan, index), *reference.denominators(plan))
+        agree(f"document 001, base {base}, index {index}", here, Fraction(fraction))
+
+
+def reference_points(library, peers, rng):
+    """Both permuted Halton families in every base, and random plans of every family."""
+    tally = Counter()
+    printed_permutations()
+    permuted = PERMUTED, KOCIS
+    chosen = [Plan(family, (base,)) for family in permuted for base in BASES] * 2
+    chosen += [plans.random_plan(rng, family) for family in permuted for _ in range(400)] + [plans.random_plan(rng) for _ in range(200)]
     for plan in chosen:
         data = plans.bytes_of(plan)
         base = 2 if plan.family == SOBOL else rng.choice(plan.axes)
@@ -92,8 +122,11 @@ def reference_points(library, peers, rng):
 
 
 def plan_strings(library, peers, rng):
-    """Byte strings that are plans, nearly plans or anything, to both calls."""
+    """Byte strings that are plans, nearly plans or anything, to both calls. None gives 2, and a byte of family 3 alone gives 1 or 3."""
     tally, met = Counter(), Counter()
+    for data, code in plans.kocis_heads():
+        same_answer(f"plan {data.hex()}", library.point(data, 0), "K5", (code, b""))
+        same_answer(f"plan {data.hex()}", library.count(data, 0, 0, b""), "K5", (code, b""))
     for data in plans.strings(rng):
         index = rng.choice((rng.randrange(2**32), rng.randrange(2**32), rng.randrange(2**64), 2**32 - 1, 2**32))
         room = rng.choice((48, 48, 64, rng.randint(0, 64)))
@@ -103,7 +136,7 @@ def plan_strings(library, peers, rng):
         tally["points"] += answer[0] == 0
         met[answer[0]] += 1
         tally["window counts"] += same_count(library, windows.short_question(rng, data), met)
-    all_met(met, [*range(12), 13])
+    all_met(met, [0, *READING_REFUSALS, 11, 13])
     return tally
 
 
@@ -127,15 +160,17 @@ def same_count(library, question, met):
 
 
 def all_met(met, codes):
-    """The random questions met every answer many times."""
+    """The random questions met each of these answers many times, and no other."""
     for code in codes:
         if met[code] < 20:
             raise Disagreement(f"the answer {code} was only met {met[code]} times")
+    if set(met) != set(codes):
+        raise Disagreement(f"the answers {sorted(met)} were met, and not {codes} alone")
 
 
 # ---- the run
 
-READING = [partial(WrongRefusal, call=call, number=number) for call in ("point", "count") for number in range(1, 11)]
+READING = [partial(WrongRefusal, call=call, number=number) for call in ("point", "count") for number in READING_REFUSALS]
 POINT = [partial(WrongRefusal, call="point", number=number) for number in (11, 13)]
 COUNT = [partial(WrongRefusal, call="count", number=number) for number in (11, 13, 14)]
 NUMBERS = [partial(WrongCount, place=place) for place in (7, 15, 16)]
@@ -145,6 +180,7 @@ PARTS = (
     ("Boost, Sobol", boost, [WrongPoint]),
     ("scipy, van der Corput", van_der_corput, [WrongPoint]),
     ("GSL and scipy, first six axes", first_axes, [WrongPoint]),
+    ("octave-stk, Kocis and Whiten", stk, [WrongPoint]),
     ("reference, points", reference_points, [WrongPoint]),
     ("reference, plan bytes", plan_strings, [Careless] + READING + POINT),
     ("reference, windows", window_counts, [Careless] + NUMBERS + COUNT),

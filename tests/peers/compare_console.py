@@ -1,5 +1,5 @@
 """Compares the console's answers with the reference's, on the stored tests, on random scripts, on counts by strips over long runs, on short
-buffers at the end of a run and on slots of indexes in a row, and tries how its input and output end.
+buffers at the end of a run, on slots of indexes in a row and on states whose family is set, and tries how its input and output end.
 
 Usage: compare_console.py CONSOLE SEED."""
 import random
@@ -13,12 +13,13 @@ import plans
 import reference
 import scripts
 import windows
-from reference import HALTON, PERMUTED
+from reference import FAMILIES, HALTON_FAMILIES, READING_REFUSALS
 
 SCRIPTS = 1000
 LONG_RUNS = 60
 SHORT_RUNS = 60
 ROWS = 60
+STATES = 60
 
 
 def run(program, script):
@@ -64,7 +65,7 @@ def strips(program, rng):
     for turn in range(LONG_RUNS):
         is_walked = turn % 3 == 0
         count = rng.randint(8192, 9000) if is_walked else rng.choice((rng.randint(10**6, 2**32 - 1), 2**32 - 1, 2**32))
-        plan = plans.random_plan(rng, rng.choice((HALTON, PERMUTED)), rng.randint(1, 3))
+        plan = plans.random_plan(rng, rng.choice(HALTON_FAMILIES), rng.randint(1, 3))
         start = rng.choice((0, rng.randint(0, 2**32 - count), 2**32 - count))
         reference_count = reference.count_inside if is_walked else reference.count_by_strips
         lines, answers = [f"read {plans.bytes_of(plan).hex()}", f"open {count} {start}"], ["read 0", "open 0"]
@@ -100,7 +101,7 @@ def short_buffers(program, rng):
 def shares(program, rng):
     """Over b^k indexes in a row every slot of an axis of base b comes up equally often, where their number divides b^k."""
     for turn in range(ROWS):
-        plan = plans.random_plan(rng, rng.choice((HALTON, PERMUTED)))
+        plan = plans.random_plan(rng, rng.choice(HALTON_FAMILIES))
         axis = rng.randint(1, len(plan.axes))
         base = plan.axes[axis - 1]
         size = base ** rng.randint(1, reference.digit_count(base, 2000 // base))
@@ -112,6 +113,29 @@ def shares(program, rng):
         compare(f"row {turn}", script, answers, console.answers(script).split("\n"))
         if Counter(answers[1:-1]) != {f"slot 0 {slot}": size // slots for slot in range(slots)}:
             sys.exit(f"row {turn}: {size} indexes from {first} on are not shared evenly by {slots} slots of base {base}")
+
+
+def heads(program):
+    """Each byte of family 3 alone is refused by 1 or 3, and never by 2."""
+    read = plans.kocis_heads()
+    script = "\n".join(f"read {data.hex()}" for data, _ in read).encode()
+    compare("first bytes", script, run(program, script), [f"read {code}" for _, code in read] + [""])
+
+
+def families(program, rng):
+    """A state without a run stays genuine where its family is set to another that has bases too, and else is foreign."""
+    for turn in range(STATES):
+        plan = plans.random_plan(rng)
+        kind = HALTON_FAMILIES if plan.family in HALTON_FAMILIES else (plan.family,)
+        lines, codes = [f"read {plans.bytes_of(plan).hex()}"], ["read 0"]
+        for family in (*FAMILIES, len(FAMILIES), 2**64 - 1):
+            code = 0 if family in kind else 15
+            lines += [f"poke 0 {family}", "write 71", f"jump {plans.random_index(rng)} 6"]
+            codes += ["poke 0", f"write {code}", f"jump {code}"]
+        script = "\n".join(lines).encode()
+        answers = run(program, script)
+        compare(f"families {turn}", script, [" ".join(answer.split()[:2]) for answer in answers], codes + [""])
+        compare(f"families {turn}", script, answers, console.answers(script).split("\n"))
 
 
 def random_scripts(program, rng):
@@ -128,7 +152,7 @@ def random_scripts(program, rng):
 
 
 EVERY = {
-    "read": [*range(11)],
+    "read": [0, *READING_REFUSALS],
     "write": [0, 13, 15],
     "open": [0, 11, 15],
     "jump": [0, 11, 13, 15],
@@ -155,15 +179,21 @@ def main():
     strips(program, random.Random(seed))
     short_buffers(program, random.Random(seed))
     shares(program, random.Random(seed))
+    heads(program)
+    families(program, random.Random(seed))
     met = random_scripts(program, random.Random(seed))
-    for name, codes in EVERY.items():
-        for code in codes:
-            if met[f"{name} {code}"] < 3:
-                sys.exit(f"the answer {name} {code} was only met {met[f'{name} {code}']} times")
+    every = [f"{name} {code}" for name, codes in EVERY.items() for code in codes]
+    for answer in every:
+        if met[answer] < 3:
+            sys.exit(f"the answer {answer} was only met {met[answer]} times")
+    others = met.keys() - {*every, "lines in error"}
+    if others:
+        sys.exit(f"answers that no call gives were met: {', '.join(sorted(others))}")
     print(f"console: {sum(met.values())} answers of {SCRIPTS} random scripts are the reference's, {met['lines in error']} of them of lines in error")
     print(f"console: so are the counts by strips over {LONG_RUNS} long runs")
     print(f"console: and short buffers at the end of {SHORT_RUNS} runs and day sets are refused by 13")
     print(f"console: and slots share {ROWS} rows of indexes evenly")
+    print(f"console: and {STATES} states are genuine in the families of their axes, and in no other")
 
 
 main()

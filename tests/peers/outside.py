@@ -1,8 +1,12 @@
-"""The outside implementations: Boost and GSL through peers.cpp, which names their limits, and scipy. All answers are rows of exact numerators.
+"""The outside implementations: Boost and GSL through peers.cpp, which names their limits, scipy, and octave-stk. All answers are rows of exact
+numerators.
 
-Scipy's van der Corput numbers start at any index. Its Sobol engine reaches an index by stepping, and its Halton engine by drawing all before."""
+Scipy's van der Corput numbers start at any index. Its Sobol engine reaches an index by stepping, and its Halton engine by drawing all before.
+Octave-stk's Halton points with Kocis and Whiten's permutations have the first primes as their bases; they are drawn from index 0 on."""
 import ctypes
+import subprocess
 import warnings
+from functools import lru_cache
 
 import numpy
 from scipy.stats import _qmc
@@ -12,6 +16,8 @@ from reference import SOBOL_DENOMINATOR
 
 GSL_SOBOL_DENOMINATOR = 2**30
 PRIMES = (2, 3, 5, 7, 11, 13)
+STK_BASES = [base for base in range(2, 257) if all(base % divisor for divisor in range(2, base))]
+STK_INDEXES = 2**18  # beyond b^2 in every base
 
 
 class Outside:
@@ -67,6 +73,21 @@ def scipy_points(engine, first, count):
     with warnings.catch_warnings():
         warnings.simplefilter("ignore", UserWarning)  # scipy warns of counts that are no power of 2
         return (engine.fast_forward(first) if first > 0 else engine).random(count)
+
+
+def stk_halton(bases, first, count):
+    """Octave-stk's points in prime bases, for indexes below STK_INDEXES."""
+    columns = [stk_fractions()[base][first : first + count] for base in bases]
+    return exact_rows(numpy.transpose(columns), denominators(bases))
+
+
+@lru_cache(maxsize=None)
+def stk_fractions():
+    """The fractions of all indexes by base, from one run of Octave, which writes them column by column."""
+    script = f"pkg load stk; fwrite(stdout, double(stk_sampling_halton_rr2({STK_INDEXES}, {len(STK_BASES)})), 'double');"
+    command = ["octave-cli", "--norc", "--no-history", "--eval", script]
+    written = subprocess.run(command, stdout=subprocess.PIPE, check=True).stdout
+    return dict(zip(STK_BASES, numpy.frombuffer(written).reshape(len(STK_BASES), STK_INDEXES)))
 
 
 def denominators(bases):

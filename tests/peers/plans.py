@@ -4,7 +4,7 @@ from itertools import product
 from math import gcd
 
 import reference
-from reference import HALTON, PERMUTED, SOBOL, Axis, Plan
+from reference import FAMILIES, SOBOL, Axis, Plan
 
 
 def pack(fields):
@@ -36,7 +36,7 @@ def bytes_of(plan):
 
 
 def random_plan(rng, family=None, count=None):
-    family = rng.randrange(3) if family is None else family
+    family = rng.choice(FAMILIES) if family is None else family
     count = rng.randint(1, 6) if count is None else count
     axes = sobol_axes(rng, count) if family == SOBOL else coprime_bases(rng, count)
     return Plan(family, tuple(axes))
@@ -82,6 +82,11 @@ def strings(rng):
     yield b""
     yield from (bytes([byte]) for byte in range(256))
     yield from (bytes(divmod(number, 256)) for number in rng.sample(range(65536), 16000))
+
+
+def kocis_heads():
+    """Each byte of family 3 alone, with the number that refuses it: 3 for no axes and for seven, and else 1, since their bases are missing."""
+    return [(bytes([byte]), 3 if byte >> 3 & 7 in (0, 7) else 1) for byte in range(0xC0, 0x100)]
 
 
 def random_string(rng):
@@ -151,8 +156,8 @@ def any_bytes(rng):
 
 
 def any_axes(rng):
-    """Random bytes after a family and a number of axes that are valid."""
-    head = rng.choice((HALTON, PERMUTED, SOBOL)) << 6 | rng.randint(1, 6) << 3 | rng.randrange(8)
+    """Random bytes after a family and a number of axes that is valid."""
+    head = rng.choice(FAMILIES) << 6 | rng.randint(1, 6) << 3 | rng.randrange(8)
     return bytes([head]) + rng.randbytes(rng.randint(0, 80))
 
 

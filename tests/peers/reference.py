@@ -1,14 +1,16 @@
-"""Plans, points, window counts and day sets in plain Python, written from the papers alone: the scope document 01, K1 and K2 of the change requests
-02, and the source documents 001 (Faure's permutations), 002 and 004 (van der Corput, Halton, Hammersley) and 003 (Sobol). It shares nothing with the
-crates, and is slow on purpose."""
+"""Plans, points, window counts and day sets in plain Python, written from the papers alone: the scope document 01, K1, K2, K4 and K5 of the change
+requests 02, and the source documents 001 (Faure's and Kocis and Whiten's permutations), 002 and 004 (van der Corput, Halton, Hammersley) and 003
+(Sobol). It shares nothing with the crates, and is slow on purpose."""
 from collections import namedtuple
 from functools import lru_cache
 from itertools import takewhile
 from math import gcd
 
 INDEXES = 2**32
-HALTON, PERMUTED, SOBOL = 0, 1, 2
+HALTON, PERMUTED, SOBOL, KOCIS = FAMILIES = 0, 1, 2, 3
+HALTON_FAMILIES = HALTON, PERMUTED, KOCIS
 SOBOL_DENOMINATOR = 2**32
+READING_REFUSALS = 1, 3, 4, 5, 6, 7, 8, 9, 10  # of a plan's bytes; since K5 there is no 2
 
 # axes: the bases of a Halton plan, or the Axis of each Sobol axis
 Plan = namedtuple("Plan", "family axes")
@@ -56,7 +58,6 @@ def read(data):
     """The plan of a byte string."""
     fields = Fields(data)
     family = fields.take(2)
-    refuse_if(family == 3, 2)
     count = fields.take(3)
     refuse_if(count in (0, 7), 3)
     read_axis = read_sobol_axis if family == SOBOL else read_base
@@ -117,10 +118,13 @@ def denominators(plan):
     return [SOBOL_DENOMINATOR if plan.family == SOBOL else axis ** depth(axis) for axis in plan.axes]
 
 
-def halton_numerator(base, index, image):
-    """The sum of image(a_j) b^(k-1-j), with a_j the digits of the index, lowest first."""
-    k = depth(base)
+def mirrored(base, k, index, image):
+    """The sum of image(a_j) b^(k-1-j), with a_j the k digits of the index, lowest first."""
     return sum(image[index // base**j % base] * base ** (k - 1 - j) for j in range(k))
+
+
+def halton_numerator(base, index, image):
+    return mirrored(base, depth(base), index, image)
 
 
 @lru_cache(maxsize=None)
@@ -137,8 +141,19 @@ def faure(digit, base):
     return r if r < half else r + 1
 
 
+def kocis(base):
+    """The images under Kocis and Whiten's permutation, as document 001 lists them: the base-2 van der Corput numbers of 0 to 2^d - 1 times 2^d,
+    with the least d for which 2^d is the base or more, and those at or above the base dropped."""
+    d = digit_count(2, base - 1)
+    listed = [mirrored(2, d, n, (0, 1)) for n in range(2**d)]
+    return tuple(number for number in listed if number < base)
+
+
 @lru_cache(maxsize=None)
 def images(family, base):
+    """The images of the digits 0 to base - 1."""
+    if family == KOCIS:
+        return kocis(base)
     return tuple(faure(digit, base) if family == PERMUTED else digit for digit in range(base))
 
 

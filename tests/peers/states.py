@@ -5,7 +5,7 @@ from functools import lru_cache
 
 import plans
 import reference
-from reference import INDEXES, SOBOL, Axis, Plan, Refused
+from reference import FAMILIES, INDEXES, SOBOL, Axis, Plan, Refused
 
 WORDS = 215
 LONG = 400  # points
@@ -40,7 +40,7 @@ def run_in(words):
 def plan_in(words):
     """The plan that a state's words claim to hold; it is refused if no reading accepts it."""
     family, count = words[:2]
-    reference.refuse_if(family > 2 or not 1 <= count <= 6, 15)
+    reference.refuse_if(family not in FAMILIES or not 1 <= count <= 6, 15)
     axes = [sobol_axis(words, i) for i in range(count)] if family == SOBOL else words[2 : 2 + count]
     reference.refuse_if(family != SOBOL and not all(2 <= base <= 256 for base in axes), 15)
     return reference.read(plans.bytes_of(Plan(family, tuple(axes))))

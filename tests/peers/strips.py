@@ -4,7 +4,7 @@ from collections import Counter
 import plans
 import reference
 import windows
-from reference import HALTON, PERMUTED
+from reference import HALTON_FAMILIES
 from verdict import agree, same_answer
 
 
@@ -24,7 +24,7 @@ def strips(library, peers, rng):
 
 
 def random_run(rng, count):
-    plan = plans.random_plan(rng, rng.choice((HALTON, PERMUTED)))
+    plan = plans.random_plan(rng, rng.choice(HALTON_FAMILIES))
     return plan, min(rng.choice((0, plans.random_index(rng, rng.choice(plan.axes)), 2**32 - count)), 2**32 - count)
 
 

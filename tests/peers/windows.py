@@ -3,7 +3,7 @@ from math import prod
 
 import plans
 import reference
-from reference import SOBOL
+from reference import HALTON_FAMILIES, SOBOL
 
 
 def text(question):
@@ -109,7 +109,7 @@ def axes_claimed(data):
 def long_questions(rng):
     """Long runs, about a power of a base, with the answer: u = q on every axis takes all, and u = 0 on one takes nothing."""
     for _ in range(60):
-        plan = plans.random_plan(rng, rng.choice((reference.HALTON, reference.PERMUTED)))
+        plan = plans.random_plan(rng, rng.choice(HALTON_FAMILIES))
         base = rng.choice(plan.axes)
         powers = [base**j for j in range(1, 20) if base**j < 400000]
         count = rng.choice(powers) + rng.randint(-1, 1)

@@ -74,6 +74,15 @@ read-accepted bytes below z = go (readPlan bytes) refl
     go (refused n) e = absurd (omega (arith, rw e at z, refused-range bytes n e))
     go (accepted p) e = let a = accepted-iff bytes below p .0 e in (p, a .0, a .1, rw e refl)
 
+-- number 2 (family) is answered for no bytes (02's K5)
+pub read-never-two : (bytes : List ℕ) → readSpec bytes .code ≡ 2 → ⊥
+unfolding readSpec readState
+read-never-two bytes z = go (readPlan bytes) refl
+  where
+    go : (r : Reading) → readPlan bytes ≡ r → ⊥
+    go (refused n) e = refused-range bytes n e .2 (rw e at z)
+    go (accepted p) e = omega (arith, rw e at z)
+
 -- the run that a reading leaves
 pub none-opened : Permitted (runOf 0 0) 0
 none-opened = record { in-range = is-range (runOf 0 0) (omega arith); not-past = omega arith }

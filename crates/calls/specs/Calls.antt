@@ -74,7 +74,7 @@ jumpOrder isForeign outOfRange noRoom = 15 when isForeign ∷ 11 when outOfRange
 abbrev pub runOrder : Bool → Bool → Bool → List Condition
 runOrder isForeign isSpent noRoom = 15 when isForeign ∷ 13 when noRoom ∷ 12 when isSpent ∷ []
 
--- ---- read: the numbers 1 to 10
+-- ---- read: the numbers 1 and 3 to 10
 
 unfoldable pub readState : Reading → Moved
 readState (refused n) = moved n blank

@@ -56,6 +56,8 @@ fn traps() {
     reading(b"read bases 4 9", &[16, 24, 64]);
     reading(b"read bases 6 9", &[16, 40, 64]);
     reading(b"read x^4 + x^3 + x^2 + x + 1", &[138, 112]);
+    reading(b"read C8, family 3 and no base", &[200]);
+    reading(b"read bases 227 229 of family 3", &[215, 23, 32]);
 }
 
 // Index 2 of x^3 + x + 1 with 1, 3, 7 is 1/4 of 2^32, and not the 3/4 that the index's own bits would give.

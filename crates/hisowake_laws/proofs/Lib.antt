@@ -2,3 +2,4 @@
 pub mod WordLaws
 pub mod SamplerLaws
 pub mod CountLaws
+pub mod NumberLaws

@@ -2,7 +2,7 @@
 
 // short: the bytes end before a field's last bit
 pub const TRUNCATED: u64 = 1;
-// family: family 3
+// family: never given by a call, since every family is read (02-change-requests.md, K5); words that name no family have it
 pub const BAD_FAMILY: u64 = 2;
 // axes: 0 or 7
 pub const BAD_AXIS_COUNT: u64 = 3;

@@ -1,5 +1,5 @@
 -- The arrays of a genuine state can be written. Assumes nothing.
-use mathlib.Core.Path.{_≡_, sym, subst}
+use mathlib.Core.Path.{_≡_, refl, sym, subst}
 use mathlib.Core.List.{List, append-nil}
 use Prim.Native.Nat.{ℕ, _≤_}
 use native.Mathlib.Omega.{arith}
@@ -36,7 +36,7 @@ made-writable (halton family bases) v =
       bases-long = omega (arith, padded-length 6 bases (v .1 .1));
       polynomials-long = omega arith;
       ms-long = ms-long _;
-      base = λ k h low. omega (arith, padded-at 6 bases k, v .2 .low k h);
+      base = λ k h other. omega (arith, padded-at 6 bases k, v .2 .low k h);
       degree = λ k h. rw zeros-at (degree-low 0 (omega arith));
     }
 made-writable (sobol axes) v =
@@ -46,7 +46,7 @@ made-writable (sobol axes) v =
       bases-long = omega arith;
       polynomials-long = omega (arith, padded-length 6 (polynomialsOf axes) (omega (arith, length-polynomials axes)), length-polynomials axes);
       ms-long = ms-long _;
-      base = λ k h low. absurd (omega arith);
+      base = λ k h other. absurd (other refl);
       degree = λ k h.
           let v = v .1 .valid k h in
           rw (padded-at 6 (polynomialsOf axes) k, polynomial-at axes k h) (omega (arith, degree-of (v .degree), v .degree-high));

@@ -6,6 +6,7 @@ use Rattle.numbers.specs.Digits.{digit, digitCountIn, digitCount, sum, productT
 use Rattle.numbers.specs.Depth.{depth, denominator}
 use Rattle.numbers.specs.Listed.{listed}
 use Rattle.permutation.specs.Faure.{evenRule, oddRule, faureIn, faure}
+use Rattle.permutation.specs.Kocis.{corput, lessFrom, sieve, bitsFor, kocis}
 use Rattle.permutation.specs.Families.{imageOf}
 use Rattle.halton.specs.Axis.{numerator}
 use Rattle.binary.specs.Gray.{rightZeroIn, rightZero}
@@ -23,5 +24,5 @@ use Rattle.window.specs.Counting.{axisInside, stepInside, insideCount, boundOf,
 use Rattle.reference.specs.Table.{windowOver, answerTo, table}
 
 pub rows-hold : map (λ r. answerTo (r .question)) table ≡ map (λ r. r .answer) table
-unfolding windowOver answerTo gcd gcdIn digit digitCountIn digitCount sum term numeratorTo depth denominator listed evenRule oddRule faureIn faure imageOf numerator rightZeroIn rightZero timesX onlyLast isPrimitive mTerms mRule mList scaled directions stepped toBits ofBits bitsOf refuseIf field andThen sharesFactor readBases polynomialOf isRepeated readMs readAxis readAxes readBody readFields finish readPlan axisCount numeratorOf denominatorOf slotOf count belowCut factor indexAt runNumerator each productTo axisInside stepInside insideCount boundOf cutsOf
+unfolding windowOver answerTo gcd gcdIn digit digitCountIn digitCount sum term numeratorTo depth denominator listed evenRule oddRule faureIn faure corput lessFrom sieve bitsFor kocis imageOf numerator rightZeroIn rightZero timesX onlyLast isPrimitive mTerms mRule mList scaled directions stepped toBits ofBits bitsOf refuseIf field andThen sharesFactor readBases polynomialOf isRepeated readMs readAxis readAxes readBody readFields finish readPlan axisCount numeratorOf denominatorOf slotOf count belowCut factor indexAt runNumerator each productTo axisInside stepInside insideCount boundOf cutsOf
 rows-hold = refl

@@ -1,10 +1,10 @@
--- The reference points R1 to R12 of 01-scope.md, row by row: what is asked, and the answer that the paper prints. The questions are asked of
--- the definitions that the calls' contracts name. Definitions only.
+-- The reference points R1 to R12 of 01-scope.md and the list that 02's K5 prints, row by row: what is asked, and the answer that the paper prints. The
+-- questions are asked of the definitions that the calls' contracts name. Definitions only.
 use mathlib.Core.List.{List, [], _∷_}
 use Prim.Native.Nat.{ℕ}
 use lib.ListN.{length}
 use Rattle.numbers.specs.Listed.{listed}
-use Rattle.permutation.specs.Faure.{faure}
+use Rattle.permutation.specs.Families.{imageOf}
 use Rattle.sobol.specs.Directions.{mList}
 use Rattle.plan.specs.Plan.{Axis, Plan, halton, sobol}
 use Rattle.plan.specs.Reading.{Reading, refused, accepted, readPlan}
@@ -17,8 +17,8 @@ pub data Question : Type 0 where
   fraction : Plan → ℕ → Question
   -- the second of the day of an index
   second : Plan → ℕ → Question
-  -- Faure's permutation of a base, digit by digit
-  permutation : ℕ → Question
+  -- the permutation of a family in a base, digit by digit
+  permutation : ℕ → ℕ → Question
   -- m_1 to m_n of a Sobol axis
   directionNumbers : Axis → ℕ → Question
   -- what reading these bytes comes to
@@ -37,7 +37,7 @@ windowOver (accepted p) w start N = numbers (insideCount p (cutsOf w (axisCount 
 unfoldable pub answerTo : Question → Answer
 answerTo (fraction p n) = numbers (numeratorOf p n 0 ∷ denominatorOf p 0 ∷ [])
 answerTo (second p n) = numbers (slotOf p 86400 n 0 ∷ [])
-answerTo (permutation b) = numbers (listed (faure b) b)
+answerTo (permutation family b) = numbers (listed (imageOf family b) b)
 answerTo (directionNumbers x n) = numbers (mList (length (x .ms)) (x .polynomial) (x .ms) n)
 answerTo (reading bytes) = read (readPlan bytes)
 answerTo (window bytes w start N) = windowOver (readPlan bytes) w start N
@@ -61,7 +61,7 @@ table =
     ∷ row (fraction (halton 0 (2 ∷ [])) 6) (numbers (1610612736 ∷ 4294967296 ∷ []))
     ∷ row (second (halton 0 (2 ∷ [])) 6) (numbers (32400 ∷ []))
     -- R3
-    ∷ row (permutation 7) (numbers (0 ∷ 2 ∷ 5 ∷ 3 ∷ 1 ∷ 4 ∷ 6 ∷ []))
+    ∷ row (permutation 1 7) (numbers (0 ∷ 2 ∷ 5 ∷ 3 ∷ 1 ∷ 4 ∷ 6 ∷ []))
     -- R4
     ∷ row (fraction (halton 1 (5 ∷ [])) 6) (numbers (4394531250 ∷ 6103515625 ∷ []))
     -- R5
@@ -80,5 +80,7 @@ table =
     ∷ row (reading (0x10 ∷ 0x08 ∷ 0x11 ∷ [])) (read (refused 10))
     -- R12
     ∷ row (reading []) (read (refused 1))
-    ∷ row (reading (0xC8 ∷ [])) (read (refused 2))
+    ∷ row (reading (0xC8 ∷ [])) (read (refused 1))
+    -- K5
+    ∷ row (permutation 3 10) (numbers (0 ∷ 8 ∷ 4 ∷ 2 ∷ 6 ∷ 1 ∷ 9 ∷ 5 ∷ 3 ∷ 7 ∷ []))
     ∷ []

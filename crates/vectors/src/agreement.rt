@@ -124,6 +124,21 @@ fn row_agrees(printed: Printed, axes: [u64; 3], row: [u64; 7]) -> bool {
     entry_agrees(printed, axes[2], row[0], row[5], row[6])
 }
 
+// How many entries of a list of images agree: entry d is the image of digit d in base `b`, so the point of index d is that entry over `b`.
+pub fn count_images(family: u64, b: u64, list: &[u64]) -> usize
+    ensures { λ r. do ⌜ r ≤ (← ⟦list.len()⟧ .entry) ⌝ }
+{
+    let mut agreed = 0;
+    let mut d = 0;
+    while d < list.len() {
+        if halton_agrees(family, b, d as u64, list[d], b) {
+            agreed += 1;
+        }
+        d += 1;
+    }
+    agreed
+}
+
 // How many rows of a table agree.
 pub fn count_agreeing(printed: Printed, axes: [u64; 3], table: &[[u64; 7]]) -> usize
     ensures { λ r. do ⌜ r ≤ (← ⟦table.len()⟧ .entry) ⌝ }

@@ -22,6 +22,53 @@ fn report(label: &[u8], printed: Printed, axes: [u64; 3], table: &[[u64; 7]]) {
     put_line(label, agreed, table.len());
 }
 
+// The line of a list of images in base `b`.
+fn report_images(label: &[u8], family: u64, b: u64, list: &[u64]) {
+    let agreed = agreement::count_images(family, b, list);
+    put_line(label, agreed, list.len());
+}
+
+// The groups of document 001 with the permutations of Kocis and Whiten.
+fn kocis_whiten() {
+    let kocis = Printed::Halton { family: 3 };
+    report_images(
+        b"001 base 31 Kocis-Whiten, images 0 to 30",
+        3,
+        31,
+        &tables::KOCIS_THIRTY_ONE,
+    );
+    report_images(
+        b"001 base 10 Kocis-Whiten, images 0 to 9",
+        3,
+        10,
+        &tables::KOCIS_TEN,
+    );
+    report(
+        b"001 base 7 Kocis-Whiten, terms 1 to 6",
+        kocis,
+        [7, 0, 0],
+        &tables::KOCIS_SEVEN,
+    );
+    report(
+        b"001 bases 2 3 5 Kocis-Whiten, term 3",
+        kocis,
+        [2, 3, 5],
+        &tables::KOCIS_FIRST_THREE,
+    );
+    report(
+        b"001 bases 7 11 13 Kocis-Whiten, term 3",
+        kocis,
+        [7, 11, 13],
+        &tables::KOCIS_NEXT_THREE,
+    );
+    report(
+        b"001 base 17 Kocis-Whiten, term 3",
+        kocis,
+        [17, 0, 0],
+        &tables::KOCIS_LAST,
+    );
+}
+
 // The groups of document 001: Halton points, plain and permuted.
 fn document_001() {
     let plain = Printed::Halton { family: 0 };
@@ -112,6 +159,7 @@ fn document_003() {
 // Every group, document by document.
 fn main() {
     document_001();
+    kocis_whiten();
     document_002();
     document_003();
 }

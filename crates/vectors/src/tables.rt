@@ -69,6 +69,59 @@ pub const SCRAMBLED_SEVEN: [[u64; 7]; 6] = [
     [6, 6, 7, 0, 0, 0, 0],
 ];
 
+// Document 001: the permutations of Kocis and Whiten in bases 31 and 10, as lists of the digits' images.
+pub const KOCIS_THIRTY_ONE: [u64; 31] = [
+    0,
+    16,
+    8,
+    24,
+    4,
+    20,
+    12,
+    28,
+    2,
+    18,
+    10,
+    26,
+    6,
+    22,
+    14,
+    30,
+    1,
+    17,
+    9,
+    25,
+    5,
+    21,
+    13,
+    29,
+    3,
+    19,
+    11,
+    27,
+    7,
+    23,
+    15,
+];
+
+pub const KOCIS_TEN: [u64; 10] = [0, 8, 4, 2, 6, 1, 9, 5, 3, 7];
+
+// Document 001: the van der Corput numbers in base 7 by that permutation, and the seven-dimensional vector of index 3.
+pub const KOCIS_SEVEN: [[u64; 7]; 6] = [
+    [1, 4, 7, 0, 0, 0, 0],
+    [2, 2, 7, 0, 0, 0, 0],
+    [3, 6, 7, 0, 0, 0, 0],
+    [4, 1, 7, 0, 0, 0, 0],
+    [5, 5, 7, 0, 0, 0, 0],
+    [6, 3, 7, 0, 0, 0, 0],
+];
+
+pub const KOCIS_FIRST_THREE: [[u64; 7]; 1] = [[3, 3, 4, 2, 9, 1, 5]];
+
+pub const KOCIS_NEXT_THREE: [[u64; 7]; 1] = [[3, 6, 7, 2, 11, 12, 13]];
+
+pub const KOCIS_LAST: [[u64; 7]; 1] = [[3, 4, 17, 0, 0, 0, 0]];
+
 // Document 002: the table of the first 18 van der Corput numbers in base 3.
 pub const BASE_THREE: [[u64; 7]; 18] = [
     [0, 0, 1, 0, 0, 0, 0],
