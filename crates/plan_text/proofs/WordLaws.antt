@@ -121,7 +121,7 @@ module _ (family s : ℕ) (bases ps ms : List ℕ) (long : length bases ≡ 6) (
         each = λ j l. omega (arith, given-low ms k j (valid-given ps ms k x j l), pow-mono {i = suc j} {j = 12} (omega (arith, degree-low (getD ps k 0) (fit-polynomial ps ms k x .high))));
       }
 
-  pub family-low : family < 3
+  pub family-low : family < 4
   family-low = omega (arith, valid-kind family s bases ps ms v)
 
   pub halton-text : (family ≡ 2 → ⊥) → familyWord family ++ basesText (take s bases) ≡ planText (planOf family s bases ps ms)
