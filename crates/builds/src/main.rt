@@ -69,6 +69,8 @@ fn good() {
     build(b"sobol 0 11:1,3,7");
     build(b"sobol 3:1 7:1,1 13:1,3,5 11:1,3,7 0 19:1,1,3,15");
     build(b"sobol 4179:1,3,7,15,31,63,127,255,511,1023,2047,4095");
+    build(b"kocis 10 3 7");
+    build(b"kocis 256 255 253 251 247 241");
 }
 
 // Words that spell nothing.
@@ -76,10 +78,12 @@ fn misspelled() {
     build(b"");
     build(b"halt 2 3");
     build(b"Halton 2 3");
+    build(b"kosic 2 3");
     build(b"halton");
     build(b"halton 2 3 5 7 11 13 17");
     build(b"halton 2 three");
     build(b"permuted 2 3 18446744073709551616");
+    build(b"kocis 3 11:1,3,7");
     build(b"sobol 0 x");
     build(b"sobol 00");
     build(b"sobol 11");
@@ -104,6 +108,8 @@ fn unsound() {
     build(b"halton 4 9 6");
     build(b"halton 4 5 6");
     build(b"halton 2 3 2");
+    build(b"kocis 10 1");
+    build(b"kocis 10 7 15");
     build(b"sobol 31:1,1,1,1");
     build(b"sobol 5:1,1");
     build(b"sobol 10:1,1,1");

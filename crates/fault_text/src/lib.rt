@@ -217,7 +217,11 @@ pub fn message(f: Fault, out: &mut [u8]) -> usize
     let code = f.code;
     match code {
         0 => 0,
-        refusal::BAD_FAMILY => say(out, 0, b"expected the family halton, permuted or sobol"),
+        refusal::BAD_FAMILY => say(
+            out,
+            0,
+            b"expected the family halton, permuted, sobol or kocis",
+        ),
         refusal::BAD_AXIS_COUNT => say_got(out, 0, b"expected one to six axes", f.got),
         refusal::BUFFER_TOO_SMALL => say(out, 0, b"the plan has no room in the buffer"),
         _ => {

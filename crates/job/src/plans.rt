@@ -52,7 +52,7 @@ fn wrong_words(j: Job, out: &mut [u8], fault: Fault) -> Job {
         return error(
             j,
             out,
-            b"expected plan HEX, the plan's bytes in one word, or the family halton, permuted or sobol",
+            b"expected plan HEX, the plan's bytes in one word, or the family halton, permuted, sobol or kocis",
         );
     }
     let mut said = [0u8; 256];

@@ -89,7 +89,6 @@ pub fn error(j: Job, out: &mut [u8], what: &[u8]) -> Job {
 fn meaning(j: Job, out: &mut [u8], code: u64) -> Job {
     match code {
         1 => end(j, out, b"the bytes end before a field's last bit"),
-        2 => end(j, out, b"the family is 3"),
         3 => end(j, out, b"the number of axes is 0 or 7"),
         4 => end(j, out, b"a base is 1"),
         5 => end(j, out, b"a base is not coprime to an earlier one"),

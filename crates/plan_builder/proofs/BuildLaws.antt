@@ -31,11 +31,11 @@ use Rattle.plan_builder.specs.Outcome.{Outcome}
 -- ---- what is said and sound can be written
 
 module _ (family s : ℕ) (bases ps ms : List ℕ) (long : length bases ≡ 6) (long-ps : length ps ≡ 6) (long-ms : length ms ≡ 72) (six : s ≤ 6)
-    (v : Valid (planOf family s bases ps ms)) (blank : family < 2 → ps ≡ replicate 6 0) where
-  base-low : (k : ℕ) → k < s → family < 2 → 1 ≤ getD bases k 0
+    (v : Valid (planOf family s bases ps ms)) (blank : (family ≡ 2 → ⊥) → ps ≡ replicate 6 0) where
+  base-low : (k : ℕ) → k < s → (family ≡ 2 → ⊥) → 1 ≤ getD bases k 0
   unfolding Valid
-  base-low k h low =
-      let w = rw (plan-halton family s bases ps ms (λ e. omega arith)) at v in
+  base-low k h n =
+      let w = rw (plan-halton family s bases ps ms n) at v in
       let front = length-take-le s bases (omega arith) in
       omega (arith, rw (getD-take s bases k 0 h) at (w .2 .low k (omega arith)))
 
@@ -47,7 +47,7 @@ module _ (family s : ℕ) (bases ps ms : List ℕ) (long : length bases ≡ 6) (
       let w = rw (plan-sobol family s bases ps ms e) at v in
       let x = rw (axes-at ps ms s k h) at (w .1 .valid k (omega (arith, length-axes ps ms s))) in
       omega (arith, degree-of (x .degree), x .degree-high))
-      (λ n. rw (blank (omega (arith, n, valid-kind family s bases ps ms v)), zeros-at 6 k) (degree-low 0 (omega arith)))
+      (λ n. rw (blank n, zeros-at 6 k) (degree-low 0 (omega arith)))
       (eq-or-ne family 2)
 
   can-write : Writable family s bases ps ms

@@ -227,12 +227,12 @@ unfolding planOf planBy
 plan-sobol family s bases ps ms e = ap (λ (n : ℕ). planOf n s bases ps ms) e
 
 -- a valid plan is of a family that there is, and has axes
-pub valid-kind : (family s : ℕ) (bases ps ms : List ℕ) → Valid (planOf family s bases ps ms) → (family ≤ 2) × (1 ≤ s)
+pub valid-kind : (family s : ℕ) (bases ps ms : List ℕ) → Valid (planOf family s bases ps ms) → (family < 4) × (1 ≤ s)
 unfolding Valid
 valid-kind family s bases ps ms v =
     ⊎-elim
     (λ e. let w = rw (plan-sobol family s bases ps ms e) at v in (omega arith, omega (arith, length-axes ps ms s, w .0 .0)))
-    (λ n. let w = rw (plan-halton family s bases ps ms n) at v in (omega (arith, w .0), omega (arith, length-take s bases, w .1 .0)))
+    (λ n. let w = rw (plan-halton family s bases ps ms n) at v in (w .0 .0, omega (arith, length-take s bases, w .1 .0)))
     (eq-or-ne family 2)
 
 module _ (family s : ℕ) (bases ps ms : List ℕ) (long : length bases ≡ 6) where
@@ -245,7 +245,7 @@ module _ (family s : ℕ) (bases ps ms : List ℕ) (long : length bases ≡ 6) w
   found-valid (Found.halton h few b) =
       let iff = bases-valid bases s (omega arith) b in
       let front = length-take-le s bases (omega arith) in
-      rw (plan-halton family s bases ps ms (λ e. omega arith))
+      rw (plan-halton family s bases ps ms (h .1))
       (λ e. (few .1, (h, (omega arith, omega arith), iff .0 e)), λ v. iff .1 (v .1 .2))
   found-valid (Found.sobol h few a) =
       let iff = axes-valid ps ms s a in

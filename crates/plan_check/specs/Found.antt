@@ -7,7 +7,7 @@ use lib.ListN.{take, getD}
 use Rattle.numbers.specs.Gcd.{Coprime}
 use Rattle.binary.specs.Polynomial.{degreeOf}
 use Rattle.sobol.specs.Directions.{OddBelow}
-use Rattle.plan.specs.Plan.{ValidBases, ValidAxes, OneToSix}
+use Rattle.plan.specs.Plan.{ValidBases, ValidAxes, OneToSix, HaltonFamily}
 use Rattle.plan.specs.Answer.{axesOf}
 use Rattle.fitting.specs.Fits.{FitPolynomial}
 use Rattle.plan_check.specs.declared.Fault.{Fault}
@@ -78,7 +78,7 @@ pub data AxesFound (ps ms : List ℕ) (n : ℕ) : Fault → Type 0 where
 -- ---- the whole: 2 (family), 3 (axes), and then axis by axis
 
 pub data Found (family s : ℕ) (bases ps ms : List ℕ) : Fault → Type 0 where
-  badFamily : 2 < family → Found family s bases ps ms (faultAt 2 0 0 family 0)
-  badCount : family ≤ 2 → (OneToSix s → ⊥) → Found family s bases ps ms (faultAt 3 0 0 s 0)
-  halton : {f : Fault} → family < 2 → OneToSix s → BasesFound bases s f → Found family s bases ps ms f
+  badFamily : 3 < family → Found family s bases ps ms (faultAt 2 0 0 family 0)
+  badCount : family ≤ 3 → (OneToSix s → ⊥) → Found family s bases ps ms (faultAt 3 0 0 s 0)
+  halton : {f : Fault} → HaltonFamily family → OneToSix s → BasesFound bases s f → Found family s bases ps ms f
   sobol : {f : Fault} → family ≡ 2 → OneToSix s → AxesFound ps ms s f → Found family s bases ps ms f

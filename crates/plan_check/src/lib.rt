@@ -177,7 +177,7 @@ pub fn check(family: u64, axes: usize, bases: &[u64], polynomials: &[u64], ms: &
     requires { ⌜ (length (now bases) ≡ 6) × (length (now polynomials) ≡ 6) × (length (now ms) ≡ 72) ⌝ }
     ensures { λ r. ⌜ Found family axes (now (bases .entry)) (now (polynomials .entry)) (now (ms .entry)) r ⌝ }
 {
-    if 2 < family {
+    if 3 < family {
         return report(refusal::BAD_FAMILY, 0, 0, family, 0);
     }
     if axes < 1 {

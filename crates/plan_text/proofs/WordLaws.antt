@@ -18,7 +18,7 @@ use Rattle.text.proofs.PutLaws.{put-none, put-then}
 use Rattle.plan.specs.Plan.{Axis, Valid}
 use Rattle.plan.specs.Answer.{axisAt, axesOf, planOf}
 use Rattle.plan.proofs.AnswerLaws.{length-axes}
-use Rattle.plan_check.proofs.FoundLaws.{axes-at, fit-polynomial, valid-given, given-low, plan-halton, plan-sobol, valid-kind}
+use Rattle.plan_check.proofs.FoundLaws.{axes-at, fit-polynomial, valid-given, given-low, plan-halton, plan-sobol}
 use Rattle.plan_words.specs.Says.{familyWord}
 use Rattle.plan_text.specs.Words.{space, part, basesText, markAt, msText, axisText, axesText, planText, GoodAxis, WordsPut}
 
@@ -120,9 +120,6 @@ module _ (family s : ℕ) (bases ps ms : List ℕ) (long : length bases ≡ 6) (
         high = fit-polynomial ps ms k x .high;
         each = λ j l. omega (arith, given-low ms k j (valid-given ps ms k x j l), pow-mono {i = suc j} {j = 12} (omega (arith, degree-low (getD ps k 0) (fit-polynomial ps ms k x .high))));
       }
-
-  pub family-low : family < 3
-  family-low = omega (arith, valid-kind family s bases ps ms v)
 
   pub halton-text : (family ≡ 2 → ⊥) → familyWord family ++ basesText (take s bases) ≡ planText (planOf family s bases ps ms)
   unfolding planText

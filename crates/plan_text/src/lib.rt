@@ -89,13 +89,14 @@ fn put_axes(out: &mut [u8], start: usize, polynomials: &[u64], ms: &[u64], axes:
 
 // The family's word, at the front.
 fn put_family(out: &mut [u8], family: u64) -> usize
-    requires { ⌜ (family < 3) × (8 ≤ length (now out)) ⌝ }
+    requires { ⌜ (family < 4) × (8 ≤ length (now out)) ⌝ }
     ensures { λ r. ⌜ TextPut (now (out .entry)) (now (out .exit)) 0 (familyWord family) r × (r ≤ 8) ⌝ }
 {
     match family {
         0 => text::put(out, 0, b"halton"),
         1 => text::put(out, 0, b"permuted"),
-        _ => text::put(out, 0, b"sobol"),
+        2 => text::put(out, 0, b"sobol"),
+        _ => text::put(out, 0, b"kocis"),
     }
 }
 

@@ -1,10 +1,12 @@
 -- The words of a line, one axis after another; and a line with a word at fault says no plan. Assumes nothing.
 use mathlib.Core.Path.{_≡_, refl, sym, ap, _∙_}
+use mathlib.Core.Bool.{cond}
 use mathlib.Core.List.{List}
 use Prim.Native.Nat.{ℕ, zero, suc, _+_, _-_, _*_, _≤_, _<_}
 use native.Mathlib.Omega.{arith}
 use native.Mathlib.Numerals.{add-one}
 use borrow.Author.Count.{below-more}
+use lib.Dec.{eqb}
 use lib.ListN.{length, getD, take, drop, set, replicate, length-set, length-take, length-drop}
 use lib.Seq.{getD-set-same, getD-set-other, getD-take, getD-drop, length-take-le, ext-getD}
 use Rattle.binary.specs.Polynomial.{degreeOf}
@@ -12,7 +14,7 @@ use Rattle.words.specs.Word.{FirstWord}
 use Rattle.words.specs.Decimal.{numberOf}
 use Rattle.words.specs.declared.Word.{Word}
 use Rattle.words.specs.declared.Number.the-variants.{Value}
-use Rattle.plan.specs.Plan.{Axis, noAxis, Plan, halton, sobol, OneToSix}
+use Rattle.plan.specs.Plan.{Axis, noAxis, Plan, halton, sobol, OneToSix, HaltonFamily}
 use Rattle.plan.specs.Answer.{axisAt, axesOf}
 use Rattle.plan.proofs.AnswerLaws.{length-axes}
 use Rattle.axis_words.specs.Spelled.{AxisWord}
@@ -173,7 +175,7 @@ module _ (line : List ℕ) (from : ℕ) where
           size = refl;
           size-polynomials = a .size;
           size-ms = a .size-ms;
-          blank = λ l. absurd (omega arith);
+          blank = λ n. absurd (n two);
           spelled = λ z.
               rw (plan-sobol family s (replicate 6 0) ps ms two) (
                 rw two at (head (length (axesOf ps ms s)) (length-axes ps ms s)),
@@ -186,10 +188,10 @@ module _ (line : List ℕ) (from : ℕ) where
               rw (w .1) (Unspelled.badAxis (f .code) (w .0) (rw two at n) (omega (arith, w .2)) (rw e at (w .3)));
         }
 
-    pub said-bases : (bases : List ℕ) → family < 2 → BasesRead line end s f bases
+    pub said-bases : (bases : List ℕ) → HaltonFamily family → BasesRead line end s f bases
         → Parsed line from (record { fault = f; family = family; axes = s; bases = bases; polynomials = replicate 6 0; ms = replicate 72 0 })
     unfolding Says
-    said-bases bases low b =
+    said-bases bases kind b =
         let front = length-take-le s bases (omega (arith, b .size, few .1)) in
         record {
           few = few .1;
@@ -198,8 +200,8 @@ module _ (line : List ℕ) (from : ℕ) where
           size-ms = refl;
           blank = λ l. refl;
           spelled = λ z.
-              rw (plan-halton family s bases (replicate 6 0) (replicate 72 0) (λ q. omega arith)) (
-                low,
+              rw (plan-halton family s bases (replicate 6 0) (replicate 72 0) (kind .1)) (
+                kind,
                 head (length (take s bases)) front,
                 λ i h.
                     let l : i < s = omega arith in
@@ -208,7 +210,7 @@ module _ (line : List ℕ) (from : ℕ) where
           refused = λ z.
               let w = b .refused z in
               let v = w .1 in
-              rw (w .0, v .1) (Unspelled.badBase family (v .0) low n (omega (arith, v .2)) (rw e at (v .3)));
+              rw (w .0, v .1) (Unspelled.badBase family (v .0) kind n (omega (arith, v .2)) (rw e at (v .3)));
         }
 
 -- ---- the family's word
@@ -216,52 +218,56 @@ module _ (line : List ℕ) (from : ℕ) where
 pub named : (word : List ℕ) (f : ℕ) → f < families → word ≡ familyWord f → FamilyRead word f
 named word f h e = record { named = λ l. e; none = λ l. absurd (omega arith) }
 
-pub no-family : (word : List ℕ) → (word ≡ familyWord 0 → ⊥) → (word ≡ familyWord 1 → ⊥) → (word ≡ familyWord 2 → ⊥) → FamilyRead word 4
-no-family word a b c = record { named = λ l. absurd (omega arith); none = λ l. each }
+pub no-family : (word : List ℕ) → (word ≡ familyWord 0 → ⊥) → (word ≡ familyWord 1 → ⊥) → (word ≡ familyWord 2 → ⊥) → (word ≡ familyWord 3 → ⊥)
+    → FamilyRead word 4
+no-family word a b c d = record { named = λ l. absurd (omega arith); none = λ l. each }
   where
     each : (f : ℕ) → f < families → word ≡ familyWord f → ⊥
     each zero h = a
     each (suc zero) h = b
     each (suc (suc zero)) h = c
-    each (suc (suc (suc f))) h = absurd (omega arith)
+    each (suc (suc (suc zero))) h = d
+    each (suc (suc (suc (suc f)))) h = absurd (omega arith)
 
--- a Halton family's word is not that of Sobol's
-not-sobol : (f : ℕ) → f < 2 → familyWord f ≡ familyWord 2 → ⊥
-unfolding familyWords
-not-sobol zero h e = omega (arith, ap length e)
-not-sobol (suc zero) h e = omega (arith, ap length e)
-not-sobol (suc (suc f)) h e = omega arith
+-- the family by a word's first letter: h, p, s or k
+familyBy : ℕ → ℕ
+familyBy letter = cond (eqb letter 104) 0 (cond (eqb letter 112) 1 (cond (eqb letter 115) 2 3))
+
+family-back : (f : ℕ) → f < families → familyBy (getD (familyWord f) 0 0) ≡ f
+unfolding familyWords familyBy
+family-back zero h = refl
+family-back (suc zero) h = refl
+family-back (suc (suc zero)) h = refl
+family-back (suc (suc (suc zero))) h = refl
+family-back (suc (suc (suc (suc f)))) h = absurd (omega arith)
+
+-- no two families have the same word
+family-same : (f g : ℕ) → f < families → g < families → familyWord f ≡ familyWord g → f ≡ g
+family-same f g h k e = sym (family-back f h) ∙ ap (λ (word : List ℕ). familyBy (getD word 0 0)) e ∙ family-back g k
+
+not-sobol : (f : ℕ) → HaltonFamily f → familyWord f ≡ familyWord 2 → ⊥
+not-sobol f h e = h .1 (family-same f 2 (h .0) (omega arith) e)
 
 -- ---- a word at fault says no plan
 
 module _ (line : List ℕ) (from : ℕ) where
   pub unspelled : {code axis : ℕ} → Unspelled line from code axis → (p : Plan) → Says line from p → ⊥
   unfolding Says NoBase NoAxis
-  unspelled (Unspelled.badFamily h) (halton family bases) s = h family (omega (arith, s .0)) (s .1 .named)
+  unspelled (Unspelled.badFamily h) (halton family bases) s = h family (s .0 .0) (s .1 .named)
   unspelled (Unspelled.badFamily h) (sobol axes) s = h 2 (omega arith) (s .0 .named)
   unspelled (Unspelled.badCount h) (halton family bases) s = h (rw (s .1 .count) (s .1 .few))
   unspelled (Unspelled.badCount h) (sobol axes) s = h (rw (s .0 .count) (s .0 .few))
-  unspelled (Unspelled.badBase family i low n h none) (halton g bases) s = none (getD bases i 0) (s .2 i (omega (arith, s .1 .count)))
-  unspelled (Unspelled.badBase family i low n h none) (sobol axes) s = not-sobol family low (sym n ∙ s .0 .named)
+  unspelled (Unspelled.badBase family i kind n h none) (halton g bases) s = none (getD bases i 0) (s .2 i (omega (arith, s .1 .count)))
+  unspelled (Unspelled.badBase family i kind n h none) (sobol axes) s = not-sobol family kind (sym n ∙ s .0 .named)
   unspelled (Unspelled.badAxis code i n h none) (halton family bases) s = not-sobol family (s .0) (sym (s .1 .named) ∙ n)
   unspelled (Unspelled.badAxis code i n h none) (sobol axes) s = none (getD axes i noAxis) (s .1 i (omega (arith, s .0 .count)))
 
 -- ---- a line says one plan
 
-family-same : (f g : ℕ) → f < 2 → g < 2 → familyWord f ≡ familyWord g → f ≡ g
-unfolding familyWords
-family-same zero zero h k e = refl
-family-same zero (suc zero) h k e = absurd (omega (arith, ap length e))
-family-same zero (suc (suc g)) h k e = absurd (omega arith)
-family-same (suc zero) zero h k e = absurd (omega (arith, ap length e))
-family-same (suc zero) (suc zero) h k e = refl
-family-same (suc zero) (suc (suc g)) h k e = absurd (omega arith)
-family-same (suc (suc f)) g h k e = absurd (omega arith)
-
 pub says-same : (line : List ℕ) (from : ℕ) (p q : Plan) → Says line from p → Says line from q → p ≡ q
 unfolding Says
 says-same line from (halton f bases) (halton g others) s t =
-    let e = family-same f g (s .0) (t .0) (sym (s .1 .named) ∙ t .1 .named) in
+    let e = family-same f g (s .0 .0) (t .0 .0) (sym (s .1 .named) ∙ t .1 .named) in
     let long : length bases ≡ length others = sym (s .1 .count) ∙ t .1 .count in
     let b : bases ≡ others =
     ext-getD 0 bases others long (λ i h. value-same (wordAt line (axesFrom line from) i) (s .2 i h) (t .2 i (omega arith))) in

@@ -5,7 +5,7 @@ use Prim.Native.Nat.{ℕ, _+_, _≤_, _<_}
 use lib.ListN.{length, getD, replicate}
 use Rattle.words.specs.Decimal.{numberOf}
 use Rattle.words.specs.declared.Number.the-variants.{Value}
-use Rattle.plan.specs.Plan.{Axis, OneToSix}
+use Rattle.plan.specs.Plan.{Axis, OneToSix, HaltonFamily}
 use Rattle.plan.specs.Answer.{axisAt, planOf}
 use Rattle.axis_words.specs.Spelled.{AxisWord}
 use Rattle.plan_words.specs.Says.{wordText, wordAt, familyWord, families, axesFrom, axesSaid, Says}
@@ -41,7 +41,7 @@ pub record AxesRead (line : List ℕ) (from n : ℕ) (f : Fault) (ps ms : List �
 pub data Unspelled (line : List ℕ) (from : ℕ) : ℕ → ℕ → Type 0 where
   badFamily : ((f : ℕ) → f < families → wordText line from ≡ familyWord f → ⊥) → Unspelled line from 2 0
   badCount : (OneToSix (axesSaid line from) → ⊥) → Unspelled line from 3 0
-  badBase : (family i : ℕ) → family < 2 → wordText line from ≡ familyWord family → i < axesSaid line from → NoBase line (axesFrom line from) i
+  badBase : (family i : ℕ) → HaltonFamily family → wordText line from ≡ familyWord family → i < axesSaid line from → NoBase line (axesFrom line from) i
       → Unspelled line from 102 (i + 1)
   badAxis : (code i : ℕ) → wordText line from ≡ familyWord 2 → i < axesSaid line from → NoAxis line (axesFrom line from) i
       → Unspelled line from code (i + 1)
@@ -61,6 +61,6 @@ pub record Parsed (line : List ℕ) (from : ℕ) (r : PlanSaid) : Type 0 where
   pub size : length (r .bases) ≡ 6
   pub size-polynomials : length (r .polynomials) ≡ 6
   pub size-ms : length (r .ms) ≡ 72
-  pub blank : r .family < 2 → r .polynomials ≡ replicate 6 0
+  pub blank : (r .family ≡ 2 → ⊥) → r .polynomials ≡ replicate 6 0
   pub spelled : r .fault .code ≡ 0 → Says line from (planOf (r .family) (r .axes) (r .bases) (r .polynomials) (r .ms))
   pub refused : (r .fault .code ≡ 0 → ⊥) → Unspelled line from (r .fault .code) (r .fault .axis)

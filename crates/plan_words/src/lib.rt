@@ -21,6 +21,9 @@ pub fn family_of(word: &[u8]) -> u64
     if check::same(word, b"sobol") {
         return 2;
     }
+    if check::same(word, b"kocis") {
+        return 3;
+    }
     4
 }
 
@@ -134,7 +137,7 @@ pub fn parse(line: &[u8], from: usize) -> PlanSaid
     let start = w.start;
     let end = w.end;
     let family = family_of(&line[start..end]);
-    if 2 < family {
+    if 3 < family {
         return unsaid(refusal::BAD_FAMILY, 0);
     }
     let axes = words::count(line, end);

@@ -35,7 +35,8 @@ fn plan(l: Lines, out: &mut [u8], s: Sampler) -> Lines {
     match family {
         0 => axes(put(l, out, b"Halton, bases"), out, s),
         1 => axes(put(l, out, b"Permuted Halton, bases"), out, s),
-        _ => axes(put(l, out, b"Sobol"), out, s),
+        2 => axes(put(l, out, b"Sobol"), out, s),
+        _ => axes(put(l, out, b"Kocis-Whiten Halton, bases"), out, s),
     }
 }
 

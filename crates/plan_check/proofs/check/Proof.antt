@@ -33,7 +33,7 @@ check-bases-requires : tie.Need-check-bases-requires
 check-bases-requires c κs = search needs
 
 returns-5 : tie.Need-returns-5
-returns-5 c = Found.halton (omega arith) (omega arith, omega arith) (c .check-bases .ensures)
+returns-5 c = Found.halton (omega arith, λ e. omega arith) (omega arith, omega arith) (c .check-bases .ensures)
 
 pub check-spec : {M : Type 1} → statement M
 check-spec =

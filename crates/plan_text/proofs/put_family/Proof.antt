@@ -24,6 +24,12 @@ slice-aggregate-put-3 c = search needs
 put-requires-3 : tie.Need-put-requires-3
 put-requires-3 c κs = search needs
 
+slice-aggregate-put-4 : tie.Need-slice-aggregate-put-4
+slice-aggregate-put-4 c = search needs
+
+put-requires-4 : tie.Need-put-requires-4
+put-requires-4 c κs = search needs
+
 same-length : tie.Need-same-length
 same-length c = search needs
 
@@ -54,6 +60,16 @@ returns-3 c =
     let e : p .before .before .before .before .before .args .family ≡ 2 = omega arith in
     rw e (p .put3 .ensures, omega (arith, p .put3 .ensures .after))
 
+same-length-4 : tie.Need-same-length-4
+same-length-4 c = search needs
+
+returns-4 : tie.Need-returns-4
+unfolding familyWords
+returns-4 c =
+    let p = c .before .before in
+    let e : p .before .before .before .before .before .args .family ≡ 3 = omega arith in
+    rw e (p .put4 .ensures, omega (arith, p .put4 .ensures .after))
+
 pub put-family-spec : {M : Type 1} → statement M
 put-family-spec =
     tie.close
@@ -64,9 +80,13 @@ put-family-spec =
     put-requires-2
     slice-aggregate-put-3
     put-requires-3
+    slice-aggregate-put-4
+    put-requires-4
     same-length
     returns
     same-length-2
     returns-2
     same-length-3
-    returns-3)
+    returns-3
+    same-length-4
+    returns-4)

@@ -5,7 +5,8 @@ use Prim.Native.Nat.{_≤_}
 use native.Mathlib.Omega.{arith}
 use lib.ListN.{length}
 use Rattle.text.proofs.PutLaws.{put-then}
-use Rattle.plan_text.proofs.WordLaws.{base-small, axis-good, family-low, halton-text, sobol-text}
+use Rattle.plan_check.proofs.FoundLaws.{valid-kind}
+use Rattle.plan_text.proofs.WordLaws.{base-small, axis-good, halton-text, sobol-text}
 use Rattle.plan_text.proofs.put_plan.Statement.{statement}
 use Rattle.plan_text.proofs.put_plan.Tie as tie
 
@@ -13,7 +14,7 @@ put-family-requires : tie.Need-put-family-requires
 put-family-requires c κs =
     let s = c .before .before .before .before .before in
     let a = s .args in
-    (family-low (a .family) (a .axes) (a .bases .now) (a .polynomials .now) (a .ms .now) (s .pre .0) (s .pre .4) (s .pre .5), omega arith)
+    (valid-kind (a .family) (a .axes) (a .bases .now) (a .polynomials .now) (a .ms .now) (s .pre .5) .0, omega arith)
 
 put-axes-requires : tie.Need-put-axes-requires
 put-axes-requires c κs =

@@ -16,7 +16,7 @@ same-requires c κs = search needs
 
 returns : tie.Need-returns
 unfolding familyWords
-returns c = named _ 0 (omega arith) (c .before .same .ensures .0 (c .if1 .taken))
+returns c = named _ _ (omega arith) (c .before .same .ensures .0 (c .if1 .taken))
 
 slice-aggregate-same-2 : tie.Need-slice-aggregate-same-2
 slice-aggregate-same-2 c = search needs
@@ -26,7 +26,7 @@ same-requires-2 c κs = search needs
 
 returns-2 : tie.Need-returns-2
 unfolding familyWords
-returns-2 c = named _ 1 (omega arith) (c .before .same2 .ensures .0 (c .if2 .taken))
+returns-2 c = named _ _ (omega arith) (c .before .same2 .ensures .0 (c .if2 .taken))
 
 slice-aggregate-same-3 : tie.Need-slice-aggregate-same-3
 slice-aggregate-same-3 c = search needs
@@ -36,16 +36,27 @@ same-requires-3 c κs = search needs
 
 returns-3 : tie.Need-returns-3
 unfolding familyWords
-returns-3 c = named _ 2 (omega arith) (c .before .same3 .ensures .0 (c .if3 .taken))
+returns-3 c = named _ _ (omega arith) (c .before .same3 .ensures .0 (c .if3 .taken))
+
+slice-aggregate-same-4 : tie.Need-slice-aggregate-same-4
+slice-aggregate-same-4 c = search needs
+
+same-requires-4 : tie.Need-same-requires-4
+same-requires-4 c κs = search needs
 
 returns-4 : tie.Need-returns-4
 unfolding familyWords
-returns-4 c =
+returns-4 c = named _ _ (omega arith) (c .before .same4 .ensures .0 (c .if4 .taken))
+
+returns-5 : tie.Need-returns-5
+unfolding familyWords
+returns-5 c =
     let s = c .before in
     let t = s .before .before .before in
     let u = t .before .before .before in
-    no-family _ (λ e. true≢false (sym (u .same .ensures .1 e) ∙ t .before .before .if1 .left)) (λ e. true≢false (sym (t .same2 .ensures .1 e) ∙ s .before .before .if2 .left))
-    (λ e. true≢false (sym (s .same3 .ensures .1 e) ∙ c .if3 .left))
+    let v = u .before .before .before in
+    no-family _ (λ e. true≢false (sym (v .same .ensures .1 e) ∙ u .before .before .if1 .left)) (λ e. true≢false (sym (u .same2 .ensures .1 e) ∙ t .before .before .if2 .left))
+    (λ e. true≢false (sym (t .same3 .ensures .1 e) ∙ s .before .before .if3 .left)) (λ e. true≢false (sym (s .same4 .ensures .1 e) ∙ c .if4 .left))
 
 pub family-of-spec : {M : Type 1} → statement M
 family-of-spec =
@@ -60,4 +71,7 @@ family-of-spec =
     slice-aggregate-same-3
     same-requires-3
     returns-3
-    returns-4)
+    slice-aggregate-same-4
+    same-requires-4
+    returns-4
+    returns-5)

@@ -81,7 +81,7 @@ returns-5 c =
     let w = n .before .before in
     let e = end-is (w .find .ensures) in
     said-bases _ _ _ _ _ e ((rw (word-is (w .find .ensures)) at (n .family-of .ensures)) .named (omega arith))
-    (k .count .ensures ∙ ap (λ (n : ℕ). wordsIn true (drop n (w .before .before .args .line .now))) e) (omega arith, omega arith) _ _ (omega arith) (a .parse-bases .ensures)
+    (k .count .ensures ∙ ap (λ (n : ℕ). wordsIn true (drop n (w .before .before .args .line .now))) e) (omega arith, omega arith) _ _ (omega arith, λ q. omega arith) (a .parse-bases .ensures)
 
 pub parse-spec : {M : Type 1} → statement M
 parse-spec =
