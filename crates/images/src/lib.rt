@@ -92,14 +92,14 @@ fn kocis_images(b: usize, l: &mut [u8]) -> usize
     }
     let h = (b + 1) / 2;
     let u = kocis_images(h, l);
-    if b % 2 == 0 {
-        spread(0, h, h, l);
-        return h + u;
+    if b % 2 == 1 {
+        spread(0, u, h, l);
+        l[u] = (b - 1) as u8;
+        spread(u + 1, h, h - 1, l);
+        return u;
     }
-    spread(0, u, h, l);
-    l[u] = (b - 1) as u8;
-    spread(u + 1, h, h - 1, l);
-    u
+    spread(0, h, h, l);
+    h + u
 }
 
 // The images of the digits of base `b` in a plan of this family, in the front of `l`.

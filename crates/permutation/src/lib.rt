@@ -82,7 +82,7 @@ pub fn kocis_image(b: u64, k: u64) -> u64
     let mut d = k;
     let mut r = 0;
     let mut p = 1;
-    while 1 < h {
+    while h > 1 {
         let c = (h + 1) / 2;
         let odd = if d < c { 0 } else { 1 };
         d = d - odd * c;

@@ -53,41 +53,10 @@ add-h t c = omega arith
 kocis-images-requires : (t : ℕ) → lts.Need-kocis-images-requires (calls t) (at t) kocis-images.Post
 kocis-images-requires t c κs = omega arith
 
--- ---- an even base
+-- ---- an odd base
 
 spread-requires : (t : ℕ) → lts.Need-spread-requires (calls t) (at t) kocis-images.Post
 spread-requires t c κs =
-    let k = c .before .before .before .before in
-    let b = k .before .before .before .before .args .b in (
-      omega arith,
-      omega arith,
-      omega arith,
-      search needs,
-      table-small (k .kocis-images .ensures .0) (kocis-permutes ((b + 1) / 2) .below) (omega arith) ((b + 1) / 2) (omega arith),
-    )
-
-add-result : (t : ℕ) → lts.Need-add-result (calls t) (at t) kocis-images.Post
-add-result t c = omega arith
-
-same-length-2 : (t : ℕ) → lts.Need-same-length-2 (calls t) (at t) kocis-images.Post
-same-length-2 t c = search needs
-
-returns-2 : (t : ℕ) → lts.Need-returns-2 (calls t) (at t) kocis-images.Post
-returns-2 t c =
-    let k = c .before .before .before .before .before .before .before in
-    let b = k .before .before .before .before .args .b in
-    let h = (b + 1) / 2 in
-    let r = k .kocis-images in
-    let upper = kocis-even b h (omega arith) refl (omega arith) in (
-      halves-spread (r .ensures .0) (kocis-lower b h (omega arith) refl) (c .before .before .spread .ensures) upper b (omega arith),
-      omega (arith, r .ensures .1),
-      sym (upper (r .result) (r .ensures .1)) ∙ omega (arith, r .ensures .2),
-    )
-
--- ---- an odd base
-
-spread-requires-2 : (t : ℕ) → lts.Need-spread-requires-2 (calls t) (at t) kocis-images.Post
-spread-requires-2 t c κs =
     let k = c .before .before .before .before in
     let b = k .before .before .before .before .args .b in
     let r = k .kocis-images in (
@@ -113,8 +82,8 @@ add-spread t c = omega arith
 sub-spread : (t : ℕ) → lts.Need-sub-spread (calls t) (at t) kocis-images.Post
 sub-spread t c = omega arith
 
-spread-requires-3 : (t : ℕ) → lts.Need-spread-requires-3 (calls t) (at t) kocis-images.Post
-spread-requires-3 t c κs =
+spread-requires-2 : (t : ℕ) → lts.Need-spread-requires-2 (calls t) (at t) kocis-images.Post
+spread-requires-2 t c κs =
     let k = c .before .before .before .before .before .before .before .before in
     let b = k .before .before .before .before .args .b in
     let r = k .kocis-images in (
@@ -122,16 +91,17 @@ spread-requires-3 t c κs =
       omega (arith, r .ensures .1),
       omega arith,
       simp length-set (search needs),
-      rest-small (r .ensures .0) (kocis-permutes ((b + 1) / 2) .below) (omega arith) (r .result) (b - 1) (c .before .before .before .spread2 .ensures),
+      rest-small (r .ensures .0) (kocis-permutes ((b + 1) / 2) .below) (omega arith) (r .result) (b - 1) (c .before .before .before .spread .ensures),
     )
 
-same-length-3 : (t : ℕ) → lts.Need-same-length-3 (calls t) (at t) kocis-images.Post
-same-length-3 t c =
+same-length-2 : (t : ℕ) → lts.Need-same-length-2 (calls t) (at t) kocis-images.Post
+same-length-2 t c =
     let m = c .before .before .before .before .before .before in
-    omega (arith, length-set (m .spread2 .last .1 .1 .1 .0) (m .before .before .before .before .before .kocis-images .result) (m .before .before .before .before .before .before .before .before .before .args .b - 1))
+    let k = m .before .before .before .before .before in
+    omega (arith, length-set (m .spread .last .1 .1 .1 .0) (k .kocis-images .result) (k .before .before .before .before .args .b - 1))
 
-returns-3 : (t : ℕ) → lts.Need-returns-3 (calls t) (at t) kocis-images.Post
-returns-3 t c =
+returns-2 : (t : ℕ) → lts.Need-returns-2 (calls t) (at t) kocis-images.Post
+returns-2 t c =
     let m = c .before .before .before .before .before .before in
     let k = m .before .before .before .before .before in
     let b = k .before .before .before .before .args .b in
@@ -140,11 +110,42 @@ returns-3 t c =
     let lower = kocis-lower b h (omega arith) refl in
     let last : b - 1 ≡ kocis b (r .result) = omega (arith, lower (r .result) (r .ensures .1), r .ensures .2) in
     let odd : b % 2 ≡ 1 = omega arith in (
-      halves-less (r .ensures .0) lower (r .result) (b - 1) (m .spread2 .ensures) (c .before .before .spread3 .ensures) (r .ensures .1) (search needs) last
+      halves-less (r .ensures .0) lower (r .result) (b - 1) (m .spread .ensures) (c .before .before .spread2 .ensures) (r .ensures .1) (search needs) last
           (kocis-before b h (omega arith) refl odd (r .result) (r .ensures .1) (r .ensures .2))
           (kocis-behind b h (omega arith) refl odd (r .result) (r .ensures .1) (r .ensures .2)) b (omega arith),
       omega (arith, r .ensures .1),
       sym last,
+    )
+
+-- ---- an even base
+
+spread-requires-3 : (t : ℕ) → lts.Need-spread-requires-3 (calls t) (at t) kocis-images.Post
+spread-requires-3 t c κs =
+    let k = c .before .before .before .before in
+    let b = k .before .before .before .before .args .b in (
+      omega arith,
+      omega arith,
+      omega arith,
+      search needs,
+      table-small (k .kocis-images .ensures .0) (kocis-permutes ((b + 1) / 2) .below) (omega arith) ((b + 1) / 2) (omega arith),
+    )
+
+add-result : (t : ℕ) → lts.Need-add-result (calls t) (at t) kocis-images.Post
+add-result t c = omega arith
+
+same-length-3 : (t : ℕ) → lts.Need-same-length-3 (calls t) (at t) kocis-images.Post
+same-length-3 t c = search needs
+
+returns-3 : (t : ℕ) → lts.Need-returns-3 (calls t) (at t) kocis-images.Post
+returns-3 t c =
+    let k = c .before .before .before .before .before .before .before in
+    let b = k .before .before .before .before .args .b in
+    let h = (b + 1) / 2 in
+    let r = k .kocis-images in
+    let upper = kocis-even b h (omega arith) refl (omega arith) in (
+      halves-spread (r .ensures .0) (kocis-lower b h (omega arith) refl) (c .before .before .spread3 .ensures) upper b (omega arith),
+      omega (arith, r .ensures .1),
+      sym (upper (r .result) (r .ensures .1)) ∙ omega (arith, r .ensures .2),
     )
 
 pub +kocis-images-spec : {M : Type 1} → statement M
@@ -157,15 +158,15 @@ pub +kocis-images-spec : {M : Type 1} → statement M
     (add-h t)
     (kocis-images-requires t)
     (spread-requires t)
-    (add-result t)
-    (same-length-2 t)
-    (returns-2 t)
-    (spread-requires-2 t)
     (sub-l t)
     (cast-l t)
     (slice-write-l-2 t)
     (add-spread t)
     (sub-spread t)
+    (spread-requires-2 t)
+    (same-length-2 t)
+    (returns-2 t)
     (spread-requires-3 t)
+    (add-result t)
     (same-length-3 t)
     (returns-3 t))
