@@ -53,7 +53,7 @@ module _ (family : ℕ) (bases : List ℕ) (w : List Cut) (r : Run) where
     axes-sound =
         halton-sound (r .count) (length bases) (λ i. imageOf family (baseAt bases i)) (baseAt bases) (λ i. r .start) 1 (uOf w) (qOf w) run-meets
 
-    -- For every accepted Halton-family plan, in each of the three families, every permitted run and every cut u / q with q ≥ 1 and 0 ≤ u ≤ q on each axis: the
+    -- For every accepted plan of a Halton family (0, 1 or 3), every permitted run and every cut u / q with q ≥ 1 and 0 ≤ u ≤ q on each axis: the
     -- size of S × Q - N × U is less than bound × Q.
     pub demand-3 : Near (r .count) (insideCount (halton family bases) w r) (uProduct w (length bases)) (qProduct w (length bases))
         (boundOf (halton family bases) (r .count))
