@@ -49,7 +49,7 @@ near-more N m u q S U Q B b pos reach close part more near =
       not-below = omega (arith, mul-lt-mul-of-pos-right (near .not-below) pos, mul-le-mul-right U reach, mul-le-mul-right (Q * q) more);
     }
 
--- For every accepted Halton-family plan, plain or permuted, every N up to 2^32 and every cut u / q with q ≥ 1 and 0 ≤ u ≤ q on the leading axis
+-- For every accepted plan of a Halton family (0, 1 or 3), every N up to 2^32 and every cut u / q with q ≥ 1 and 0 ≤ u ≤ q on the leading axis
 -- and on each of the plan's: the size of S × Q - N × U is less than (bound + 1) × Q.
 pub day-near : (family : ℕ) (bases : List ℕ) → Valid (halton family bases) → (N : ℕ) → N ≤ 2 ^ 32 → (w : List Cut) → Cuts w (suc (length bases))
     → let p = halton family bases in

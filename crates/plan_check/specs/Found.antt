@@ -75,7 +75,7 @@ pub data AxesFound (ps ms : List ℕ) (n : ℕ) : Fault → Type 0 where
   sound : ValidAxes (axesOf ps ms n) → AxesFound ps ms n noFault
   axis : (i : ℕ) {f : Fault} → i < n → ValidAxes (axesOf ps ms i) → AxisFound ps ms i f → (f .code ≡ 0 → ⊥) → AxesFound ps ms n f
 
--- ---- the whole: 2 (family), 3 (axes), and then axis by axis
+-- ---- the whole: 2 (family) for one above 3, which no bytes spell; 3 (axes); and then axis by axis
 
 pub data Found (family s : ℕ) (bases ps ms : List ℕ) : Fault → Type 0 where
   badFamily : 3 < family → Found family s bases ps ms (faultAt 2 0 0 family 0)
