@@ -1,8 +1,7 @@
 -- The reversing loop: what it holds after some digits of the index, that one more digit keeps it, and what it has made at the depth.
 -- Over any map σ of the digits. Assumes nothing.
-use mathlib.Core.Path.{_≡_, sym, ap, ap₂, _∙_, subst}
+use mathlib.Core.Path.{_≡_, sym, ap, ap₂, _∙_}
 use Prim.Native.Nat.{ℕ, _+_, _-_, _*_, _/_, _%_, _^_, _<_, _≤_}
-use native.Mathlib.Nat.{zero-add, zero-mul, one-mul, mod-eq-sub-div-mul}
 use native.Mathlib.Omega.{arith}
 use Rattle.numbers.specs.Digits.{digit, numeratorTo}
 use Rattle.numbers.proofs.DigitLaws.{quotient-none, quotient-more}
@@ -43,9 +42,3 @@ module _ {σ : ℕ → ℕ} {b n x rest p : ℕ} (a : Reversing σ b n x rest p)
   pub reversing-whole : 2 ^ 32 ≤ p → x ≡ numerator σ b n
   unfolding numerator
   reversing-whole h = a .made ∙ ap (λ (k : ℕ). numeratorTo σ b k n) (rising-depth (a .power) big h)
-
--- the first digit
-pub reversing-first : (σ : ℕ → ℕ) (b n : ℕ) → 2 ≤ b → Reversing σ b n (σ (n - n / b * b)) (n / b) b
-reversing-first σ b n l =
-    subst (λ (y : ℕ). Reversing σ b n y (n / b) b) (rw zero-mul (zero-add _) ∙ ap σ (mod-eq-sub-div-mul n b))
-    (subst (λ (y : ℕ). Reversing σ b n (0 * b + σ (n % b)) (n / b) y) (one-mul b) (reversing-next (reversing-none σ b n) l (omega arith)))

@@ -17,25 +17,31 @@ fn digit_image(family: u64, b: u64, images: &[u8], d: u64) -> u64
     ensures { λ r. ⌜ r ≡ imageBy family b (now (images .entry)) d ⌝ }
 {
     if (images.len() as u64) < b {
-        return permutation::image(family, b, d);
+        return match family {
+            1 => permutation::faure_image(b, d),
+            3 => permutation::kocis_image(b, d),
+            _ => d,
+        };
     }
     images[d as usize] as u64
 }
 
 // The numerator of index `n` in base `b`: the reversing loop, by Horner's rule over the digits of `n`, lowest first, to the depth. `images` is a
-// lent table of the digits' images, or empty. It divides by `b` once: where r × b is below 2^32, r / b is r × (2^32 / b + 1) / 2^32.
+// lent table of the digits' images, or empty. It divides by `b` once: where r × b is below 2^32, r / b is r × (2^32 / b + 1) / 2^32. One place asks
+// for an image, so that the compiler builds the families' images into the loop.
 pub fn jump(family: u64, b: u64, images: &[u8], n: u64) -> Reversed
     requires { ⌜ (2 ≤ b) × (b ≤ 256) × (n < 2 ^ 32) × DigitMap b (imageIn (now images)) ⌝ }
     ensures { λ r. ⌜ r .numerator ≡ numerator (imageBy family b (now (images .entry))) b n ⌝ }
 {
     let m = 4294967296 / b + 1;
-    let mut rest = numbers::quotient(n, b, m);
-    let mut x = digit_image(family, b, images, n - rest * b);
-    let mut p = b;
+    let mut q = numbers::quotient(n, b, m);
+    let mut rest = n;
+    let mut x = 0;
+    let mut p = 1;
     while p < numbers::INDEXES {
-        let q = rest * m / 4294967296;
         x = x * b + digit_image(family, b, images, rest - q * b);
         rest = q;
+        q = q * m / 4294967296;
         p = p * b;
     }
     Reversed { numerator: x }

@@ -76,13 +76,25 @@ pub record Divided (b r q : ℕ) : Type 0 where
   pub digit : r - q * b < b
   pub fits : q * b < 2 ^ 32
 
-pub divided : (b r : ℕ) → 2 ≤ b → r * b < 2 ^ 32 → Divided b r (r * (2 ^ 32 / b + 1) / 2 ^ 32)
-divided b r big l =
-    record {
-      product = omega (arith, reciprocal-over (2 ^ 32) b r big l, div-le-self r b, mul-le-mul-left {m = 2} {n = b} r big);
-      quotient = reciprocal (2 ^ 32) b r big l;
-      back = rw (reciprocal (2 ^ 32) b r big l) (div-mul-le-self r b);
-      remainder = rw (reciprocal (2 ^ 32) b r big l) (sym (mod-eq-sub-div-mul r b));
-      digit = rw (reciprocal (2 ^ 32) b r big l) (remainder-lt r b (omega arith));
-      fits = rw (reciprocal (2 ^ 32) b r big l) (omega (arith, div-mul-le-self r b, mul-le-mul-left {m = 1} {n = b} r (omega arith)));
-    }
+module _ (b r : ℕ) (big : 2 ≤ b) where
+  is-divided : (q : ℕ) → q ≡ r / b → r * (2 ^ 32 / b + 1) < 2 ^ 64 → r < 2 ^ 32 → Divided b r q
+  is-divided q e p l =
+      record {
+        product = p;
+        quotient = e;
+        back = rw e (div-mul-le-self r b);
+        remainder = rw e (sym (mod-eq-sub-div-mul r b));
+        digit = rw e (remainder-lt r b (omega arith));
+        fits = rw e (omega (arith, div-mul-le-self r b));
+      }
+
+  -- of any index, by whatever gives the quotient
+  pub divided-any : {q : ℕ} → q ≡ r / b → r < 2 ^ 32 → Divided b r q
+  divided-any {q} e l = is-divided q e (near b r big l .product) l
+
+  -- where r × b is below 2^32, by the product
+  pub divided : r * b < 2 ^ 32 → Divided b r (r * (2 ^ 32 / b + 1) / 2 ^ 32)
+  divided l =
+      is-divided (r * (2 ^ 32 / b + 1) / 2 ^ 32) (reciprocal (2 ^ 32) b r big l)
+      (omega (arith, reciprocal-over (2 ^ 32) b r big l, div-le-self r b, mul-le-mul-left {m = 2} {n = b} r big))
+      (omega (arith, mul-le-mul-left {m = 1} {n = b} r (omega arith)))

@@ -1,44 +1,44 @@
 -- `halton::jump` meets its contract: each digit by a product; at 2^32 or above the power says that the depth is reached. Assumes nothing.
 use mathlib.Core.Path.{refl}
-use Prim.Native.Nat.{_+_, _-_, _*_, _/_, _^_, _≤_, _<_}
-use native.Mathlib.Nat.{div-le-self, div-mul-le-self}
+use Prim.Native.Nat.{_+_, _-_, _*_, _/_, _^_, _<_}
+use native.Mathlib.Nat.{div-le-self}
 use native.Mathlib.Omega.{arith}
 use denote.Ref.{now}
 use Rattle.numbers.proofs.DepthLaws.{rising-pos, rising-fits, rising-nears}
-use Rattle.numbers.proofs.ReciprocalLaws.{Divided, divided, remainder-lt}
+use Rattle.numbers.proofs.ReciprocalLaws.{Divided, divided-any, divided}
 use Rattle.halton.specs.Images.{imageBy, DigitMap}
 use Rattle.halton.proofs.ImageLaws.{image-by-digits}
-use Rattle.halton.proofs.ReversingLaws.{Reversing, reversing-first, reversing-divided, reversing-lt, reversing-whole}
+use Rattle.halton.proofs.ReversingLaws.{Reversing, reversing-none, reversing-divided, reversing-lt, reversing-whole}
 use Rattle.halton.proofs.jump.Statement.{statement}
 use Rattle.halton.proofs.jump.Tie as tie
 
 abbrev Inv-loop : tie.InvT-loop
-Inv-loop family b images n m rest₀ x₀ p₀ rest x p = (rest * b < 2 ^ 32) × Reversing (imageBy family b images) b n x rest p
+Inv-loop family b images n m q₀ rest₀ x₀ p₀ q rest x p = Divided b rest q × Reversing (imageBy family b images) b n x rest p
 
 abbrev μ-loop : tie.MeasureT-loop
-μ-loop family b images n m rest₀ x₀ p₀ rest x p = 2 ^ 32 - p
-
--- a turn's quotient
-turn : (c : tie.In-loop Inv-loop μ-loop) →
-    let b = c .before .before .before .before .before .args .b in
-    let r = c .before .loop .rest in
-    Divided b r (r * (2 ^ 32 / b + 1) / 2 ^ 32)
-turn c = divided (c .before .before .before .before .before .args .b) (c .before .loop .rest) (omega arith) (c .before .loop .inv .0)
+μ-loop family b images n m q₀ rest₀ x₀ p₀ q rest x p = 2 ^ 32 - p
 
 -- what a digit becomes is a digit
 digits : (c : tie.In-loop Inv-loop μ-loop) →
-    let a = c .before .before .before .before .before .args in
+    let a = c .before .before .before .before .args in
     DigitMap (a .b) (imageBy (a .family) (a .b) (now (a .images)))
 digits c =
-    let s = c .before .before .before .before .before in
+    let s = c .before .before .before .before in
     image-by-digits (s .args .family) (s .args .b) (now (s .args .images)) (omega arith) (s .pre .3)
 
 -- what is made so far, times b, is below 2^40
-shifted : (c : tie.In-loop Inv-loop μ-loop) → c .before .loop .x * c .before .before .before .before .before .args .b < 2 ^ 40
+shifted : (c : tie.In-loop Inv-loop μ-loop) → c .before .loop .x * c .before .before .before .before .args .b < 2 ^ 40
 shifted c =
-    let a = c .before .before .before .before .before .args in
+    let a = c .before .before .before .before .args in
     let l = c .before .loop in
     rising-fits {b = a .b} {p = l .x} (omega arith) (omega (arith, reversing-lt (l .inv .1) (omega arith) (digits c .below)))
+
+-- the next quotient
+next : (c : tie.In-loop Inv-loop μ-loop) →
+    let b = c .before .before .before .before .args .b in
+    let q = c .before .loop .q in
+    Divided b q (q * (2 ^ 32 / b + 1) / 2 ^ 32)
+next c = divided (c .before .before .before .before .args .b) (c .before .loop .q) (omega arith) (c .before .loop .inv .0 .fits)
 
 div-m : tie.Need-div-m Inv-loop μ-loop
 div-m c = omega arith
@@ -49,57 +49,39 @@ add-m c = omega (arith, div-le-self 4294967296 (c .before .args .b))
 quotient-requires : tie.Need-quotient-requires Inv-loop μ-loop
 quotient-requires c κs = (omega arith, omega arith, omega arith, refl)
 
--- the first digit
-first : (c : tie.After-quotient Inv-loop μ-loop) →
-    let a = c .before .before .args in
-    let q = c .quotient .result in
-    (q * a .b ≤ a .n) × (a .n - q * a .b < a .b)
-first c =
-    let a = c .before .before .args in
-    rw (c .quotient .ensures) (div-mul-le-self (a .n) (a .b), remainder-lt (a .n) (a .b) (omega arith))
-
-mul-digit-image : tie.Need-mul-digit-image Inv-loop μ-loop
-mul-digit-image c = omega (arith, first c)
-
-sub-digit-image : tie.Need-sub-digit-image Inv-loop μ-loop
-sub-digit-image c = first c .0
-
-digit-image-requires : tie.Need-digit-image-requires Inv-loop μ-loop
-digit-image-requires c κs = omega (arith, first c)
-
 loop-holds : tie.Need-loop-holds Inv-loop μ-loop
 loop-holds c =
-    let a = c .before .before .before .args in (
-      omega (arith, first (c .before)),
-      rw (c .digit-image .ensures, c .before .quotient .ensures) (reversing-first (imageBy (a .family) (a .b) (now (a .images))) (a .b) (a .n) (omega arith)),
-    )
-
-mul-q : tie.Need-mul-q Inv-loop μ-loop
-mul-q c = omega (arith, turn c .product)
+    let a = c .before .before .args in
+    (divided-any (a .b) (a .n) (omega arith) (c .quotient .ensures) (omega arith), reversing-none (imageBy (a .family) (a .b) (now (a .images))) (a .b) (a .n))
 
 mul-x : tie.Need-mul-x Inv-loop μ-loop
 mul-x c = omega (arith, shifted c)
 
-mul-digit-image-2 : tie.Need-mul-digit-image-2 Inv-loop μ-loop
-mul-digit-image-2 c = omega (arith, turn c .fits)
+mul-digit-image : tie.Need-mul-digit-image Inv-loop μ-loop
+mul-digit-image c = omega (arith, c .before .loop .inv .0 .fits)
 
-sub-digit-image-2 : tie.Need-sub-digit-image-2 Inv-loop μ-loop
-sub-digit-image-2 c = turn c .back
+sub-digit-image : tie.Need-sub-digit-image Inv-loop μ-loop
+sub-digit-image c = c .before .loop .inv .0 .back
 
-digit-image-requires-2 : tie.Need-digit-image-requires-2 Inv-loop μ-loop
-digit-image-requires-2 c κs = omega (arith, turn c .digit)
+digit-image-requires : tie.Need-digit-image-requires Inv-loop μ-loop
+digit-image-requires c κs = omega (arith, c .before .loop .inv .0 .digit)
 
 add-x : tie.Need-add-x Inv-loop μ-loop
-add-x c = omega (arith, shifted (c .before), c .digit-image2 .ensures, digits (c .before) .below _ (turn (c .before) .digit))
+add-x c = omega (arith, shifted (c .before), c .digit-image .ensures, digits (c .before) .below _ (c .before .before .loop .inv .0 .digit))
+
+mul-q : tie.Need-mul-q Inv-loop μ-loop
+mul-q c = omega (arith, next (c .before) .product)
 
 mul-p : tie.Need-mul-p Inv-loop μ-loop
-mul-p c = omega (arith, rising-fits {b = c .before .before .before .before .before .before .args .b} {p = c .before .before .loop .p} (omega arith) (omega arith))
+mul-p c = omega (arith, rising-fits {b = c .before .before .before .before .before .args .b} {p = c .before .before .loop .p} (omega arith) (omega arith))
 
 loop-less : tie.Need-loop-less Inv-loop μ-loop
 loop-less c = rising-nears (omega arith) (rising-pos (c .before .before .loop .inv .1 .power) (omega arith)) (omega arith)
 
 loop-again : tie.Need-loop-again Inv-loop μ-loop
-loop-again c = (turn (c .before) .fits, rw (c .digit-image2 .ensures) (reversing-divided (c .before .before .loop .inv .1) (omega arith) (turn (c .before)) (omega arith)))
+loop-again c =
+    let l = c .before .before .loop in
+    (next (c .before), rw (c .digit-image .ensures) (reversing-divided (l .inv .1) (omega arith) (l .inv .0) (omega arith)))
 
 returns : tie.Need-returns Inv-loop μ-loop
 returns c = reversing-whole (c .before .loop .inv .1) (omega arith) (omega arith)
@@ -113,16 +95,13 @@ jump-spec =
     div-m
     add-m
     quotient-requires
+    loop-holds
+    mul-x
     mul-digit-image
     sub-digit-image
     digit-image-requires
-    loop-holds
-    mul-q
-    mul-x
-    mul-digit-image-2
-    sub-digit-image-2
-    digit-image-requires-2
     add-x
+    mul-q
     mul-p
     loop-less
     loop-again
