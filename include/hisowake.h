@@ -43,9 +43,9 @@
 
 /* The version of the calls. */
 #define HISOWAKE_VERSION_MAJOR 0
-#define HISOWAKE_VERSION_MINOR 1
+#define HISOWAKE_VERSION_MINOR 2
 #define HISOWAKE_VERSION_PATCH 0
-#define HISOWAKE_VERSION "0.1.0"
+#define HISOWAKE_VERSION "0.2.0"
 
 /* Sizes. All but the number of axes are in bytes. */
 #define HISOWAKE_AXES_MAX 6    /* the most axes of a plan */

@@ -202,7 +202,7 @@ fn any_text() {
     ];
     let mut plans = 0;
     for _ in 0..200000 {
-        let mut text = String::from(if random.below(2) == 0 { "sobol " } else { "halton " });
+        let mut text = String::from(["sobol ", "halton ", "permuted ", "kocis "][random.below(4) as usize]);
         if random.below(8) == 0 {
             text.clear();
         }

@@ -37,7 +37,7 @@ size_t plan_bytes(const struct plan *p, uint8_t *bytes);
 // The window's bytes, 8 an axis; gives how many they are.
 size_t window_bytes(const struct cut *cut, int axes, uint8_t *bytes);
 
-// Reads a plan and completes it: 0, or a refusal from 1 to 10.
+// Reads a plan and completes it: 0, or a refusal, 1 or 3 to 10.
 uint64_t read_plan(const uint8_t *bytes, size_t len, struct plan *p);
 
 // The greatest common divisor of two numbers from 1 up.

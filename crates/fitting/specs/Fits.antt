@@ -31,6 +31,7 @@ pub record FitBases (bases : List ℕ) (n : ℕ) : Type 0 where
   pub high : (i : ℕ) → i < n → getD bases i 0 ≤ 256
   pub coprime : (i j : ℕ) → j < i → i < n → Coprime (getD bases i 0) (getD bases j 0)
 
+-- the arrays of a Halton plan; that the family is not 2 stands in FitPlan
 pub record FitHalton (family axes : ℕ) (bases ps vs : List ℕ) : Type 0 where
   pub kind : family < 4
   pub bases-fit : FitBases bases axes

@@ -61,7 +61,7 @@ fn are_bases(bases: &[u64], n: usize) -> bool
     true
 }
 
-// Whether the arrays are those of a Halton plan.
+// Whether the arrays are those of a Halton plan, the family being another than 2.
 fn is_halton<'a>(
     family: u64,
     axes: usize,

@@ -1,4 +1,4 @@
--- Tables of images of odd bases, made in place by their halves. Assumes nothing.
+-- Faure's tables of odd bases, made in place by their halves. Assumes nothing.
 use mathlib.Core.Path.{_≡_, sym, ap, _∙_}
 use mathlib.Core.Logic.{⊎-elim}
 use mathlib.Core.List.{List}

@@ -1,4 +1,4 @@
 -- Laws of the tables of images.
-pub mod SpreadLaws
+pub mod DoubledLaws
 pub mod ImageLaws
 pub mod HalfLaws

@@ -7,7 +7,7 @@ ghost use Rattle.numbers.specs.Listed.{Begins};
 ghost use Rattle.permutation.specs.Faure.{openGap, faure};
 ghost use Rattle.permutation.specs.Kocis.{kocis};
 ghost use Rattle.permutation.specs.Families.{imageOf};
-ghost use Rattle.images.specs.Spread.{Small, Spread};
+ghost use Rattle.images.specs.Doubled.{Small, Doubled};
 
 // The digits of base `b`, each itself, in the front of `l`.
 fn plain_images(b: usize, l: &mut [u8])
@@ -22,9 +22,9 @@ fn plain_images(b: usize, l: &mut [u8])
 }
 
 // Makes each number x of `l` from place `a` up to `e` twice as large, and puts 2 x + 1 `s` places on.
-fn spread(a: usize, e: usize, s: usize, l: &mut [u8])
+fn double_part(a: usize, e: usize, s: usize, l: &mut [u8])
     requires { ⌜ (a ≤ e) × (e ≤ s + a) × (s + e ≤ 256) × (256 ≤ length (now l)) × Small a e (now l) ⌝ }
-    ensures { λ r. ⌜ Spread a e s (now (l .entry)) (now (l .exit)) ⌝ }
+    ensures { λ r. ⌜ Doubled a e s (now (l .entry)) (now (l .exit)) ⌝ }
 {
     let mut k = a;
     while k < e {
@@ -74,14 +74,14 @@ fn faure_images(b: usize, l: &mut [u8])
     let h = b / 2;
     faure_images(h, l);
     if b % 2 == 0 {
-        spread(0, h, h, l);
+        double_part(0, h, h, l);
     } else {
         odd_images(b, l);
     }
 }
 
-// The images of the digits of base `b` under the permutation of Kocis and Whiten, in the front of `l`, and the place of b - 1, the largest. Of base h,
-// the larger half, each is doubled, for the even images, and then each but b itself is one more than that.
+// The images of the digits of base `b` under the permutation of Kocis and Whiten, in the front of `l`, and the place of b - 1, the largest. They come of
+// those of base h, the larger half: each doubled gives the even images, and each doubled and one more the odd, without b itself.
 fn kocis_images(b: usize, l: &mut [u8]) -> usize
     requires { ⌜ (1 ≤ b) × (b ≤ 256) × (256 ≤ length (now l)) ⌝ }
     ensures { λ r. ⌜ Begins (kocis b) b (now (l .exit)) × (r < b) × (kocis b r ≡ b - 1) ⌝ }
@@ -93,12 +93,12 @@ fn kocis_images(b: usize, l: &mut [u8]) -> usize
     let h = (b + 1) / 2;
     let u = kocis_images(h, l);
     if b % 2 == 1 {
-        spread(0, u, h, l);
+        double_part(0, u, h, l);
         l[u] = (b - 1) as u8;
-        spread(u + 1, h, h - 1, l);
+        double_part(u + 1, h, h - 1, l);
         return u;
     }
-    spread(0, h, h, l);
+    double_part(0, h, h, l);
     h + u
 }
 

@@ -1,17 +1,15 @@
 -- The permutation of Kocis and Whiten is one, with 0 first, in every base. Assumes nothing.
-use mathlib.Core.Path.{_≡_, refl, ap, subst}
+use mathlib.Core.Path.{_≡_, ap, subst}
 use mathlib.Core.Logic.{⊎-elim}
-use mathlib.Core.List.{List, [], _∷_}
+use mathlib.Core.List.{List}
 use Prim.Native.Nat.{ℕ, zero, suc, _+_, _-_, _*_, _/_, _^_, _<_, _≤_}
 use native.Mathlib.Nat.{le-refl, pow-zero, pow-suc}
 use native.Mathlib.Omega.{arith}
 use lib.ListN.{getD}
-use Rattle.numbers.specs.Digits.{digit, digitCountIn, digitCount, sum, term, numeratorTo}
-use Rattle.numbers.specs.Listed.{listed}
 use Rattle.numbers.proofs.Cases.{lt-or-ge}
-use Rattle.numbers.proofs.DigitLaws.{pow-one-more, digit-count-reaches, digit-count-least}
+use Rattle.numbers.proofs.DigitLaws.{pow-pos, pow-one-more, digit-count-reaches, digit-count-least}
 use Rattle.permutation.specs.Permutes.{Permutes}
-use Rattle.permutation.specs.Kocis.{corput, lessFrom, sieve, bitsFor, kocis}
+use Rattle.permutation.specs.Kocis.{bitsFor, kocis}
 use Rattle.permutation.proofs.SieveLaws.{sieve-none, sieve-one, entry, sieve-lower, sieve-upper}
 use Rattle.permutation.proofs.HalvesLaws.{halves-permute}
 
@@ -64,27 +62,11 @@ unfolding bitsFor
 bits-reach b = omega (arith, digit-count-reaches 2 (b - 1) (le-refl 2))
 
 -- no fewer digits reach b
-pub bits-least : (b d : ℕ) → 0 < b → b ≤ 2 ^ d → bitsFor b ≤ d
+pub bits-least : (b d : ℕ) → b ≤ 2 ^ d → bitsFor b ≤ d
 unfolding bitsFor
-bits-least b d l h = digit-count-least 2 (b - 1) d (le-refl 2) (omega arith)
+bits-least b d h = digit-count-least 2 (b - 1) d (le-refl 2) (omega (arith, pow-pos 2 d (omega arith)))
 
 -- THE PERMUTATION OF KOCIS AND WHITEN is one of 0 to b - 1 that sends 0 to 0, in every base.
 pub kocis-permutes : (b : ℕ) → Permutes b (kocis b)
 unfolding kocis
 kocis-permutes b = entry-permutes (bitsFor b) b (bits-reach b)
-
--- ---- K5's base 10, and document 001's bases 7 and 31
-
-pub base-ten : sieve (bitsFor 10) 10 ≡ 0 ∷ 8 ∷ 4 ∷ 2 ∷ 6 ∷ 1 ∷ 9 ∷ 5 ∷ 3 ∷ 7 ∷ []
-unfolding sieve bitsFor listed lessFrom corput digitCount digitCountIn numeratorTo sum term digit
-base-ten = refl
-
-pub base-seven : sieve (bitsFor 7) 7 ≡ 0 ∷ 4 ∷ 2 ∷ 6 ∷ 1 ∷ 5 ∷ 3 ∷ []
-unfolding sieve bitsFor listed lessFrom corput digitCount digitCountIn numeratorTo sum term digit
-base-seven = refl
-
-pub base-thirty-one : sieve (bitsFor 31) 31
-    ≡ 0 ∷ 16 ∷ 8 ∷ 24 ∷ 4 ∷ 20 ∷ 12 ∷ 28 ∷ 2 ∷ 18 ∷ 10 ∷ 26 ∷ 6 ∷ 22 ∷ 14 ∷ 30 ∷ 1 ∷ 17 ∷ 9 ∷ 25 ∷ 5 ∷ 21 ∷ 13 ∷ 29 ∷ 3 ∷ 19 ∷ 11 ∷ 27 ∷ 7 ∷ 23
-    ∷ 15 ∷ []
-unfolding sieve bitsFor listed lessFrom corput digitCount digitCountIn numeratorTo sum term digit
-base-thirty-one = refl

@@ -17,7 +17,7 @@ use Rattle.numbers.specs.Listed.{listed}
 use Rattle.numbers.proofs.Cases.{lt-or-ge, lt-iff}
 use Rattle.numbers.proofs.DigitLaws.{pow-pos, pow-one-more}
 use Rattle.numbers.proofs.ListedLaws.{listed-same, listed-parts, listed-map}
-use Rattle.numbers.proofs.NumeratorLaws.{numerator-none, numerator-last, numerator-lt, numerator-low}
+use Rattle.numbers.proofs.NumeratorLaws.{numerator-last, numerator-low}
 use Rattle.permutation.specs.Kocis.{corput, lessFrom, sieve}
 
 -- ---- lists less their numbers at or above b
@@ -64,14 +64,6 @@ double x = 2 * x
 
 pub doubleMore : ℕ → ℕ
 doubleMore x = 2 * x + 1
-
-pub corput-none : (i : ℕ) → corput 0 i ≡ 0
-unfolding corput
-corput-none i = numerator-none (λ a. a) 2 i
-
-pub corput-lt : (d i : ℕ) → corput d i < 2 ^ d
-unfolding corput
-corput-lt d i = numerator-lt (λ a. a) 2 (λ a h. h) (omega arith) d i
 
 pub corput-last : (d i : ℕ) → corput (d + 1) i ≡ 2 * corput d i + i / 2 ^ d % 2
 unfolding corput digit

@@ -1,5 +1,5 @@
 -- The images of base b under the permutation of Kocis and Whiten, by those of base h, the larger half of b: twice each, and then twice each and one
--- more, where in an odd base the last of them, which is b itself, is left out. Assumes nothing.
+-- more, where in an odd base the largest of them, which is b itself, is left out. Assumes nothing.
 use mathlib.Core.Path.{_≡_, sym, ap, ap₂, _∙_}
 use mathlib.Core.Logic.{_≢_}
 use mathlib.Core.List.{List, _∷_, _++_}

@@ -25,6 +25,9 @@ rows =
     ∷ row (0x10 ∷ 0x28 ∷ 0x40 ∷ []) (refused 5)
     -- permuted, base 256
     ∷ row (0x4F ∷ 0xF8 ∷ []) (accepted (halton 1 (256 ∷ [])))
+    -- family 3, bases 227 and 229; and no base
+    ∷ row (0xD7 ∷ 0x17 ∷ 0x20 ∷ []) (accepted (halton 3 (227 ∷ 229 ∷ [])))
+    ∷ row (0xC8 ∷ []) (refused 1)
     -- x^4 + x^3 + x^2 + x + 1
     ∷ row (0x8A ∷ 0x70 ∷ []) (refused 7)
     -- x + 1, and degree 0

@@ -1,5 +1,5 @@
 -- When each of the numbers 1 and 3 to 10 is given, in the words of 01-scope.md: its condition holds, and nothing earlier in the order does,
--- since all fields before it are right. Number 2 (family) is given for nothing since family 3 is a Halton family (02's K5). Definitions only.
+-- since all fields before it are right. Number 2 (family) is never given, since family 3 is a Halton family (02's K5). Definitions only.
 use mathlib.Core.Path.{_≡_}
 use mathlib.Core.Logic.{_⊎_}
 use mathlib.Core.List.{List, [], _++_}

@@ -1,4 +1,5 @@
--- The points of a plan: on each axis exactly van der Corput's, Faure's or Sobol's (01-scope.md, "Points"). Definitions only.
+-- The points of a plan: on each axis exactly van der Corput's, Faure's, Kocis and Whiten's or Sobol's (01-scope.md, "Points"; 02's K5). Definitions
+-- only.
 use mathlib.Core.List.{List}
 use Prim.Native.Nat.{ℕ, _*_, _/_, _^_}
 use lib.ListN.{length, getD}

@@ -78,7 +78,7 @@ table =
     ∷ row (reading (0x89 ∷ 0x00 ∷ [])) (read (refused 7))
     -- R11
     ∷ row (reading (0x10 ∷ 0x08 ∷ 0x11 ∷ [])) (read (refused 10))
-    -- R12
+    -- R12, and its C8 as K5 has it
     ∷ row (reading []) (read (refused 1))
     ∷ row (reading (0xC8 ∷ [])) (read (refused 1))
     -- K5

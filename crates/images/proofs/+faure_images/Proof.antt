@@ -9,12 +9,12 @@ use Rattle.permutation.specs.Faure.{faure}
 use Rattle.permutation.specs.Families.{imageOf}
 use Rattle.permutation.proofs.FaureRules.{faure-small}
 use Rattle.permutation.proofs.FaureLaws.{faure-below}
-use Rattle.images.proofs.SpreadLaws.{table-small, halves-spread}
+use Rattle.images.proofs.DoubledLaws.{table-small, halves-doubled}
 use Rattle.images.proofs.HalfLaws.{even-low, even-high}
 use Rattle.images.proofs.faure_images.Reads as faure-images
 use Rattle.images.proofs.faure_images.Kinds as faure-images-kinds
 use Rattle.images.proofs.+faure_images.Lts-faure_images as lts
-use Rattle.images.proofs.spread.Reads as spread
+use Rattle.images.proofs.double_part.Reads as double-part
 use Rattle.images.proofs.odd_images.Reads as odd-images
 use Rattle.images.proofs.plain_images.Reads as plain-images
 use Rattle.images.proofs.+faure_images.{statement}
@@ -31,7 +31,7 @@ below t = and 1 faure-images-kinds.ps (falls 1 faure-images-kinds.ps _<_ μ-faur
 
 -- what is told of the calls
 abbrev calls : ℕ → lts.Claims
-calls t = (plain-images.Asked, plain-images.Learnt, below t, faure-images.Post, spread.Asked, spread.Learnt, odd-images.Asked, odd-images.Learnt)
+calls t = (plain-images.Asked, plain-images.Learnt, below t, faure-images.Post, double-part.Asked, double-part.Learnt, odd-images.Asked, odd-images.Learnt)
 
 plain-images-requires : (t : ℕ) → lts.Need-plain-images-requires (calls t) (at t) faure-images.Post
 plain-images-requires t c κs = search needs
@@ -48,8 +48,8 @@ returns t c =
 faure-images-requires : (t : ℕ) → lts.Need-faure-images-requires (calls t) (at t) faure-images.Post
 faure-images-requires t c κs = omega arith
 
-spread-requires : (t : ℕ) → lts.Need-spread-requires (calls t) (at t) faure-images.Post
-spread-requires t c κs =
+double-part-requires : (t : ℕ) → lts.Need-double-part-requires (calls t) (at t) faure-images.Post
+double-part-requires t c κs =
     let f = c .before .before .before .before in
     let b = f .before .before .before .before .args .b in (
       omega arith,
@@ -69,7 +69,7 @@ returns-2 : (t : ℕ) → lts.Need-returns-2 (calls t) (at t) faure-images.Post
 returns-2 t c =
     let f = c .before .before .before .before .before .before .before in
     let b = f .before .before .before .before .args .b in
-    halves-spread (f .faure-images .ensures) (λ k l. even-low {b = b} (omega arith) (omega arith) l) (c .before .before .spread .ensures)
+    halves-doubled (f .faure-images .ensures) (λ k l. even-low {b = b} (omega arith) (omega arith) l) (c .before .before .double-part .ensures)
     (λ k l. even-high {b = b} (omega arith) (omega arith) l) b (omega arith)
 
 same-length-3 : (t : ℕ) → lts.Need-same-length-3 (calls t) (at t) faure-images.Post
@@ -86,7 +86,7 @@ pub +faure-images-spec : {M : Type 1} → statement M
     (same-length t)
     (returns t)
     (faure-images-requires t)
-    (spread-requires t)
+    (double-part-requires t)
     (odd-images-requires t)
     (same-length-2 t)
     (returns-2 t)

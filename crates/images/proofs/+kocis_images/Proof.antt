@@ -10,11 +10,11 @@ use Rattle.numbers.proofs.ListedLaws.{begins-none, begins-more, begins-less}
 use Rattle.permutation.specs.Kocis.{kocis}
 use Rattle.permutation.proofs.KocisLaws.{kocis-permutes}
 use Rattle.permutation.proofs.TableLaws.{kocis-lower, kocis-even, kocis-before, kocis-behind}
-use Rattle.images.proofs.SpreadLaws.{table-small, rest-small, halves-spread, halves-less}
+use Rattle.images.proofs.DoubledLaws.{table-small, rest-small, halves-doubled, halves-less}
 use Rattle.images.proofs.kocis_images.Reads as kocis-images
 use Rattle.images.proofs.kocis_images.Kinds as kocis-images-kinds
 use Rattle.images.proofs.+kocis_images.Lts-kocis_images as lts
-use Rattle.images.proofs.spread.Reads as spread
+use Rattle.images.proofs.double_part.Reads as double-part
 use Rattle.images.proofs.+kocis_images.{statement}
 use Rattle.images.proofs.+kocis_images.Tie.{close}
 
@@ -29,7 +29,7 @@ below t = and 1 kocis-images-kinds.ps (falls 1 kocis-images-kinds.ps _<_ μ-koci
 
 -- what is told of the calls
 abbrev calls : ℕ → lts.Claims
-calls t = (below t, kocis-images.Post, spread.Asked, spread.Learnt)
+calls t = (below t, kocis-images.Post, double-part.Asked, double-part.Learnt)
 
 -- ---- base 1
 
@@ -55,8 +55,8 @@ kocis-images-requires t c κs = omega arith
 
 -- ---- an odd base
 
-spread-requires : (t : ℕ) → lts.Need-spread-requires (calls t) (at t) kocis-images.Post
-spread-requires t c κs =
+double-part-requires : (t : ℕ) → lts.Need-double-part-requires (calls t) (at t) kocis-images.Post
+double-part-requires t c κs =
     let k = c .before .before .before .before in
     let b = k .before .before .before .before .args .b in
     let r = k .kocis-images in (
@@ -76,14 +76,14 @@ cast-l t c = omega arith
 slice-write-l-2 : (t : ℕ) → lts.Need-slice-write-l-2 (calls t) (at t) kocis-images.Post
 slice-write-l-2 t c = omega arith
 
-add-spread : (t : ℕ) → lts.Need-add-spread (calls t) (at t) kocis-images.Post
-add-spread t c = omega arith
+add-double-part : (t : ℕ) → lts.Need-add-double-part (calls t) (at t) kocis-images.Post
+add-double-part t c = omega arith
 
-sub-spread : (t : ℕ) → lts.Need-sub-spread (calls t) (at t) kocis-images.Post
-sub-spread t c = omega arith
+sub-double-part : (t : ℕ) → lts.Need-sub-double-part (calls t) (at t) kocis-images.Post
+sub-double-part t c = omega arith
 
-spread-requires-2 : (t : ℕ) → lts.Need-spread-requires-2 (calls t) (at t) kocis-images.Post
-spread-requires-2 t c κs =
+double-part-requires-2 : (t : ℕ) → lts.Need-double-part-requires-2 (calls t) (at t) kocis-images.Post
+double-part-requires-2 t c κs =
     let k = c .before .before .before .before .before .before .before .before in
     let b = k .before .before .before .before .args .b in
     let r = k .kocis-images in (
@@ -91,14 +91,14 @@ spread-requires-2 t c κs =
       omega (arith, r .ensures .1),
       omega arith,
       simp length-set (search needs),
-      rest-small (r .ensures .0) (kocis-permutes ((b + 1) / 2) .below) (omega arith) (r .result) (b - 1) (c .before .before .before .spread .ensures),
+      rest-small (r .ensures .0) (kocis-permutes ((b + 1) / 2) .below) (omega arith) (r .result) (b - 1) (c .before .before .before .double-part .ensures),
     )
 
 same-length-2 : (t : ℕ) → lts.Need-same-length-2 (calls t) (at t) kocis-images.Post
 same-length-2 t c =
     let m = c .before .before .before .before .before .before in
     let k = m .before .before .before .before .before in
-    omega (arith, length-set (m .spread .last .1 .1 .1 .0) (k .kocis-images .result) (k .before .before .before .before .args .b - 1))
+    omega (arith, length-set (m .double-part .last .1 .1 .1 .0) (k .kocis-images .result) (k .before .before .before .before .args .b - 1))
 
 returns-2 : (t : ℕ) → lts.Need-returns-2 (calls t) (at t) kocis-images.Post
 returns-2 t c =
@@ -110,7 +110,7 @@ returns-2 t c =
     let lower = kocis-lower b h (omega arith) refl in
     let last : b - 1 ≡ kocis b (r .result) = omega (arith, lower (r .result) (r .ensures .1), r .ensures .2) in
     let odd : b % 2 ≡ 1 = omega arith in (
-      halves-less (r .ensures .0) lower (r .result) (b - 1) (m .spread .ensures) (c .before .before .spread2 .ensures) (r .ensures .1) (search needs) last
+      halves-less (r .ensures .0) lower (r .result) (b - 1) (m .double-part .ensures) (c .before .before .double-part2 .ensures) (r .ensures .1) (search needs) last
           (kocis-before b h (omega arith) refl odd (r .result) (r .ensures .1) (r .ensures .2))
           (kocis-behind b h (omega arith) refl odd (r .result) (r .ensures .1) (r .ensures .2)) b (omega arith),
       omega (arith, r .ensures .1),
@@ -119,8 +119,8 @@ returns-2 t c =
 
 -- ---- an even base
 
-spread-requires-3 : (t : ℕ) → lts.Need-spread-requires-3 (calls t) (at t) kocis-images.Post
-spread-requires-3 t c κs =
+double-part-requires-3 : (t : ℕ) → lts.Need-double-part-requires-3 (calls t) (at t) kocis-images.Post
+double-part-requires-3 t c κs =
     let k = c .before .before .before .before in
     let b = k .before .before .before .before .args .b in (
       omega arith,
@@ -143,7 +143,7 @@ returns-3 t c =
     let h = (b + 1) / 2 in
     let r = k .kocis-images in
     let upper = kocis-even b h (omega arith) refl (omega arith) in (
-      halves-spread (r .ensures .0) (kocis-lower b h (omega arith) refl) (c .before .before .spread3 .ensures) upper b (omega arith),
+      halves-doubled (r .ensures .0) (kocis-lower b h (omega arith) refl) (c .before .before .double-part3 .ensures) upper b (omega arith),
       omega (arith, r .ensures .1),
       sym (upper (r .result) (r .ensures .1)) ∙ omega (arith, r .ensures .2),
     )
@@ -157,16 +157,16 @@ pub +kocis-images-spec : {M : Type 1} → statement M
     (returns t)
     (add-h t)
     (kocis-images-requires t)
-    (spread-requires t)
+    (double-part-requires t)
     (sub-l t)
     (cast-l t)
     (slice-write-l-2 t)
-    (add-spread t)
-    (sub-spread t)
-    (spread-requires-2 t)
+    (add-double-part t)
+    (sub-double-part t)
+    (double-part-requires-2 t)
     (same-length-2 t)
     (returns-2 t)
-    (spread-requires-3 t)
+    (double-part-requires-3 t)
     (add-result t)
     (same-length-3 t)
     (returns-3 t))

@@ -1,21 +1,21 @@
--- `images::spread` meets its contract: the numbers before place k are spread, and no number that is still to be read is touched. Assumes nothing.
+-- `images::double_part` meets its contract: the numbers before place k are doubled, and no number that is still to be read is touched. Assumes nothing.
 use mathlib.Core.Path.{_≡_, refl}
 use Prim.Native.Nat.{_-_, _≤_, _<_}
 use native.Mathlib.Omega.{arith}
 use lib.ListN.{length, getD, length-set}
-use Rattle.images.specs.Spread.{Spread}
-use Rattle.images.proofs.SpreadLaws.{spread-none, spread-read, spread-more, spread-as}
-use Rattle.images.proofs.spread.Statement.{statement}
-use Rattle.images.proofs.spread.Tie as tie
+use Rattle.images.specs.Doubled.{Doubled}
+use Rattle.images.proofs.DoubledLaws.{doubled-none, doubled-read, doubled-more, doubled-as}
+use Rattle.images.proofs.double_part.Statement.{statement}
+use Rattle.images.proofs.double_part.Tie as tie
 
 abbrev Inv-loop : tie.InvT-loop
-Inv-loop a e s l₀ k₀ l k = (a ≤ k) × (k ≤ e) × Spread a k s l₀ l × (length l ≡ length l₀)
+Inv-loop a e s l₀ k₀ l k = (a ≤ k) × (k ≤ e) × Doubled a k s l₀ l × (length l ≡ length l₀)
 
 abbrev μ-loop : tie.MeasureT-loop
 μ-loop a e s l₀ k₀ l k = e - k
 
 loop-holds : tie.Need-loop-holds Inv-loop μ-loop
-loop-holds c = (omega arith, omega arith, spread-none _ _ _, refl)
+loop-holds c = (omega arith, omega arith, doubled-none _ _ _, refl)
 
 -- the number that a turn reads
 number : (c : tie.In-loop Inv-loop μ-loop) →
@@ -23,7 +23,7 @@ number : (c : tie.In-loop Inv-loop μ-loop) →
 number c =
     let s = c .before .before in
     let l = c .before .loop in
-    let e = spread-read (l .inv .2) (omega arith) in
+    let e = doubled-read (l .inv .2) (omega arith) in
     (e, omega (arith, e, s .pre .4 .at (l .k) (omega arith) (omega arith)))
 
 slice-read-lower : tie.Need-slice-read-lower Inv-loop μ-loop
@@ -56,7 +56,7 @@ loop-again c =
     let e = number (c .before) .0 in (
       omega arith,
       omega arith,
-      spread-more (l .inv .2) (omega arith) (omega arith) (omega arith) (omega arith) (omega arith) (omega (arith, e)) (omega (arith, e)),
+      doubled-more (l .inv .2) (omega arith) (omega arith) (omega arith) (omega arith) (omega arith) (omega (arith, e)) (omega (arith, e)),
       simp length-set (l .inv .3),
     )
 
@@ -64,10 +64,10 @@ same-length : tie.Need-same-length Inv-loop μ-loop
 same-length c = c .before .loop .inv .3
 
 returns : tie.Need-returns Inv-loop μ-loop
-returns c = spread-as (c .before .loop .inv .2) (omega arith)
+returns c = doubled-as (c .before .loop .inv .2) (omega arith)
 
-pub spread-spec : {M : Type 1} → statement M
-spread-spec =
+pub double-part-spec : {M : Type 1} → statement M
+double-part-spec =
     tie.close
     (tie.spec
     Inv-loop
