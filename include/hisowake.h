@@ -66,7 +66,7 @@ enum hisowake_code {
     HISOWAKE_OK = 0,
     /* of the plan's bytes */
     HISOWAKE_TRUNCATED = 1,           /* the bytes end before a field's last bit */
-    HISOWAKE_BAD_FAMILY = 2,          /* never given: every family is read (it was family 3 before family 3 had a meaning) */
+    HISOWAKE_BAD_FAMILY = 2,          /* never given: all four families are read; it was for family 3 while that was unused */
     HISOWAKE_BAD_AXIS_COUNT = 3,      /* the number of axes is 0 or 7 */
     HISOWAKE_BAD_BASE = 4,            /* a base is 1 */
     HISOWAKE_COMMON_FACTOR = 5,       /* a base is not coprime to an earlier one */

@@ -15,7 +15,7 @@ use core::fmt;
 pub enum Refusal {
     /// The plan's bytes end before a field's last bit.
     Truncated = 1,
-    /// Never given: every family is read. It was family 3 before family 3 had a meaning.
+    /// Never given: all four families are read. It was for family 3 while that was unused.
     BadFamily = 2,
     /// The number of axes is 0 or 7.
     BadAxisCount = 3,
@@ -90,7 +90,7 @@ impl Refusal {
     fn reason(self) -> &'static str {
         match self {
             Refusal::Truncated => "the plan's bytes end before a field's last bit",
-            Refusal::BadFamily => "never given, since every family is read",
+            Refusal::BadFamily => "never given, since all four families are read",
             Refusal::BadAxisCount => "the number of axes is 0 or 7",
             Refusal::BadBase => "a base is 1",
             Refusal::CommonFactor => "a base is not coprime to an earlier one",
