@@ -131,9 +131,9 @@ record PlanHeld (family axes : ℕ) (bases ps vs : List ℕ) : Type 0 where
   polynomials-is : ps ≡ polynomialsArray plan
 
 module _ (family axes : ℕ) (bases ps vs : List ℕ) (few : OneToSix axes) (long : length bases ≡ 6) (long-ps : length ps ≡ 6) (long-vs : length vs ≡ 192) where
-  held-halton : (family ≡ 2 → ⊥) → FitHalton family axes bases ps vs → PlanHeld family axes bases ps vs
+  held-halton : FitHalton family axes bases ps vs → PlanHeld family axes bases ps vs
   unfolding Valid familyOf axisCount basesArray polynomialsArray directionsArray
-  held-halton n k =
+  held-halton k =
       let front = length-take-le axes bases (omega arith) in
       let at : (i : ℕ) → i < axes → getD (take axes bases) i 0 ≡ getD bases i 0 = λ i h. getD-take axes bases i 0 h in
       let valid : ValidBases (take axes bases) =
@@ -144,7 +144,7 @@ module _ (family axes : ℕ) (bases ps vs : List ℕ) (few : OneToSix axes) (lon
       } in
       record {
         plan = halton family (take axes bases);
-        valid = ((k .kind, n), (omega arith, omega arith), valid);
+        valid = (k .kind, (omega arith, omega arith), valid);
         holds = record {
           family-is = refl;
           axes-is = sym front;
@@ -171,7 +171,7 @@ module _ (family axes : ℕ) (bases ps vs : List ℕ) (few : OneToSix axes) (lon
       }
 
   held : FitPlan family axes bases ps vs → PlanHeld family axes bases ps vs
-  held f = ⊎-elim (λ e. held-sobol e (f .if-sobol e)) (λ n. held-halton n (f .if-halton n)) (eq-or-ne family 2)
+  held f = ⊎-elim (λ e. held-sobol e (f .if-sobol e)) (λ n. held-halton (f .if-halton n)) (eq-or-ne family 2)
 
   -- so the points are there to be asked for
   pub fit-arrays : FitPlan family axes bases ps vs → Arrays family axes bases vs
@@ -192,7 +192,7 @@ fit-halton : (family : ℕ) (bases : List ℕ) → Valid (halton family bases)
 unfolding Valid
 fit-halton family bases v =
     record {
-      kind = v .0 .0;
+      kind = v .0;
       bases-fit = record {
         low = λ i h. rw (padded-at 6 bases i) (v .2 .low i h);
         high = λ i h. rw (padded-at 6 bases i) (v .2 .high i h);

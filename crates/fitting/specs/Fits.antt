@@ -9,7 +9,7 @@ use lib.Bits.{bitXor}
 use Rattle.numbers.specs.Gcd.{Coprime}
 use Rattle.binary.specs.Gf2.{times}
 use Rattle.binary.specs.Polynomial.{degreeOf, Primitive}
-use Rattle.plan.specs.Plan.{OneToSix}
+use Rattle.plan.specs.Plan.{OneToSix, HaltonFamily}
 use Rattle.points.specs.Arrays.{directionsAt, numeratorAt}
 use Rattle.points.specs.Run.{Run}
 use Rattle.state.specs.State.{runIn, permitted}
@@ -31,9 +31,8 @@ pub record FitBases (bases : List ℕ) (n : ℕ) : Type 0 where
   pub high : (i : ℕ) → i < n → getD bases i 0 ≤ 256
   pub coprime : (i j : ℕ) → j < i → i < n → Coprime (getD bases i 0) (getD bases j 0)
 
--- the arrays of a Halton plan; that the family is not 2 stands in FitPlan
 pub record FitHalton (family axes : ℕ) (bases ps vs : List ℕ) : Type 0 where
-  pub kind : family < 4
+  pub kind : HaltonFamily family
   pub bases-fit : FitBases bases axes
   pub bases-zero : ZeroFrom axes bases
   pub polynomials-zero : ZeroFrom 0 ps

@@ -61,7 +61,7 @@ fn are_bases(bases: &[u64], n: usize) -> bool
     true
 }
 
-// Whether the arrays are those of a Halton plan, the family being another than 2.
+// Whether the arrays are those of a Halton plan, of a family that is not Sobol's.
 fn is_halton<'a>(
     family: u64,
     axes: usize,
@@ -69,7 +69,7 @@ fn is_halton<'a>(
     polynomials: &'a [u64],
     directions: &'a [u64],
 ) -> bool
-    requires { ⌜ axes ≤ length (now bases) ⌝ }
+    requires { ⌜ (axes ≤ length (now bases)) × (family ≡ 2 → ⊥) ⌝ }
     ensures { λ r. ⌜ (r ≡ true) ↔ FitHalton family axes (now (bases .entry)) (now (polynomials .entry)) (now (directions .entry)) ⌝ }
 {
     if 3 < family {

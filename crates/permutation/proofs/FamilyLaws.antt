@@ -1,7 +1,6 @@
 -- Every family permutes the digits of every base, with 0 first. Assumes nothing.
 use mathlib.Core.Path.{_≡_, refl}
 use Prim.Native.Nat.{ℕ, zero, suc, _≤_}
-use native.Mathlib.Omega.{arith}
 use Rattle.permutation.specs.Permutes.{Permutes}
 use Rattle.permutation.specs.Faure.{faure}
 use Rattle.permutation.specs.Kocis.{kocis}

@@ -1,6 +1,6 @@
 -- The sieve of d + 1 binary digits is two of d digits: the even numbers below b, twice those below (b + 1) / 2, and then the odd, twice those
 -- below b / 2 and one more. Assumes nothing.
-use mathlib.Core.Path.{_≡_, refl, sym, ap, ap₂, _∙_}
+use mathlib.Core.Path.{_≡_, refl, ap, ap₂, _∙_}
 use mathlib.Core.Bool.{Bool, true, false, cond}
 use mathlib.Core.List.{List, [], _∷_, _++_, map}
 use mathlib.Core.Logic.{⊎-elim}

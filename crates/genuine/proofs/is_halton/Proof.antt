@@ -7,7 +7,7 @@ use Rattle.genuine.proofs.is_halton.Statement.{statement}
 use Rattle.genuine.proofs.is_halton.Tie as tie
 
 returns : tie.Need-returns
-returns c = no (λ f. omega (arith, f .kind))
+returns c = no (λ f. omega (arith, f .kind .0))
 
 are-bases-requires : tie.Need-are-bases-requires
 are-bases-requires c κs = search needs

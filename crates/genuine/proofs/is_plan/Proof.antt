@@ -13,7 +13,7 @@ returns c =
     rests (c .is-sobol .ensures) (λ z. record { if-halton = λ n. absurd (n (omega arith)); if-sobol = λ e. z }) (λ f. f .if-sobol (omega arith))
 
 is-halton-requires : tie.Need-is-halton-requires
-is-halton-requires c κs = search needs
+is-halton-requires c κs = (search needs, λ e. omega arith)
 
 returns-2 : tie.Need-returns-2
 returns-2 c =

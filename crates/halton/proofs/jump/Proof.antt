@@ -1,7 +1,7 @@
 -- `halton::jump` meets its contract: each digit by a product; at 2^32 or above the power says that the depth is reached. Assumes nothing.
-use mathlib.Core.Path.{refl}
-use Prim.Native.Nat.{_+_, _-_, _*_, _/_, _^_, _<_}
-use native.Mathlib.Nat.{div-le-self}
+use mathlib.Core.Path.{_≡_, refl}
+use Prim.Native.Nat.{ℕ, _+_, _-_, _*_, _/_, _^_, _<_}
+use native.Mathlib.Nat.{div-le-self, mul-le-mul-left}
 use native.Mathlib.Omega.{arith}
 use denote.Ref.{now}
 use Rattle.numbers.proofs.DepthLaws.{rising-pos, rising-fits, rising-nears}
@@ -40,6 +40,15 @@ next : (c : tie.In-loop Inv-loop μ-loop) →
     Divided b q (q * (2 ^ 32 / b + 1) / 2 ^ 32)
 next c = divided (c .before .before .before .before .args .b) (c .before .loop .q) (omega arith) (c .before .loop .inv .0 .fits)
 
+-- whatever gives it
+quotient : {r : ℕ} (c : tie.In-loop Inv-loop μ-loop) →
+    let b = c .before .before .before .before .args .b in
+    let q = c .before .loop .q in r ≡ q / b → Divided b q r
+quotient c e =
+    let b = c .before .before .before .before .args .b in
+    let q = c .before .loop .q in
+    divided-any b q (omega arith) e (omega (arith, c .before .loop .inv .0 .fits, mul-le-mul-left {m = 1} {n = b} q (omega arith)))
+
 div-m : tie.Need-div-m Inv-loop μ-loop
 div-m c = omega arith
 
@@ -70,7 +79,7 @@ add-x : tie.Need-add-x Inv-loop μ-loop
 add-x c = omega (arith, shifted (c .before), c .digit-image .ensures, digits (c .before) .below _ (c .before .before .loop .inv .0 .digit))
 
 mul-q : tie.Need-mul-q Inv-loop μ-loop
-mul-q c = omega (arith, next (c .before) .product)
+mul-q c = omega (arith, next (c .before) .product, c .before .before .loop .inv .0 .fits)
 
 mul-p : tie.Need-mul-p Inv-loop μ-loop
 mul-p c = omega (arith, rising-fits {b = c .before .before .before .before .before .args .b} {p = c .before .before .loop .p} (omega arith) (omega arith))
@@ -81,7 +90,7 @@ loop-less c = rising-nears (omega arith) (rising-pos (c .before .before .loop .i
 loop-again : tie.Need-loop-again Inv-loop μ-loop
 loop-again c =
     let l = c .before .before .loop in
-    (next (c .before), rw (c .digit-image .ensures) (reversing-divided (l .inv .1) (omega arith) (l .inv .0) (omega arith)))
+    (quotient (c .before) (omega (arith, next (c .before) .quotient)), rw (c .digit-image .ensures) (reversing-divided (l .inv .1) (omega arith) (l .inv .0) (omega arith)))
 
 returns : tie.Need-returns Inv-loop μ-loop
 returns c = reversing-whole (c .before .loop .inv .1) (omega arith) (omega arith)

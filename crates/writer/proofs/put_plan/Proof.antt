@@ -1,6 +1,5 @@
 -- The header is put, and after it the axes or the bases. Assumes nothing.
 use borrow.Author.Needs.{needs}
-use Prim.Native.Nat.{_<_}
 use native.Mathlib.Omega.{arith}
 use lib.ListN.{take, length-take}
 use Rattle.plan.proofs.SpellingLaws.{length-bases-bits}
