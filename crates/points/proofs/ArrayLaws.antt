@@ -23,6 +23,7 @@ use Rattle.sobol.proofs.SteppingLaws.{stepped-lt}
 use Rattle.plan.specs.Plan.{Axis, noAxis, ValidAxis, Plan, halton, sobol, Valid}
 use Rattle.points.specs.Point.{axisCount, axisDirections, denominatorOf, numeratorOf, pointOf}
 use Rattle.points.specs.Arrays.{familyOf, basesArray, directionsIn, directionsArray, directionsAt, numeratorBy, numeratorAt, pointAt, denominatorBy, denominatorAt, BaseAt, AxisAt, Arrays}
+use Rattle.points.specs.Run.{Run, indexAt, runNumerator, runPoint}
 use Rattle.points.proofs.PointLaws.{axis-directions-lt}
 
 -- ---- the direction numbers of several axes
@@ -165,6 +166,12 @@ module _ (p : Plan) (v : Valid p) where
   unfolding pointOf
   listed-at-plan n = listed-same _ _ (axisCount p) (numerator-at-plan p v n)
 
-  pub point-at-plan : (n : ℕ) → pointAt (familyOf p) (axisCount p) (basesArray p) (directionsArray p) n ≡ padded 6 (pointOf p n)
+  pub point-at-plan : (n : ℕ) → pointAt (familyOf p) (axisCount p) (basesArray p) (directionsArray p) (λ i. n) ≡ padded 6 (pointOf p n)
   unfolding pointAt
   point-at-plan n = ap (padded 6) (listed-at-plan n)
+
+  -- the point of a run's step
+  pub point-at-step : (r : Run) (t : ℕ)
+      → pointAt (familyOf p) (axisCount p) (basesArray p) (directionsArray p) (λ i. indexAt r i t) ≡ padded 6 (runPoint p r t)
+  unfolding pointAt runPoint runNumerator
+  point-at-step r t = ap (padded 6) (listed-same _ _ (axisCount p) (λ i. numerator-at-plan p v (indexAt r i t) i))

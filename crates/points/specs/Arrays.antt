@@ -56,9 +56,17 @@ numeratorAt family bases vs n i = numeratorBy (eqb family 2) family bases vs n i
 unfoldable pub numeratorFrom : ℕ → List ℕ → List ℕ → ℕ → ℕ → ℕ → ℕ
 numeratorFrom family bases vs n i t = numeratorAt family bases vs (n + t) i
 
--- the point of index n, 0 on the axes that the plan lacks
-unfoldable pub pointAt : ℕ → ℕ → List ℕ → List ℕ → ℕ → List ℕ
-pointAt family axes bases vs n = padded 6 (listed (numeratorAt family bases vs n) axes)
+-- an index for each axis, out of a list
+abbrev pub ofAxis : List ℕ → ℕ → ℕ
+ofAxis ns i = getD ns i 0
+
+-- the numerator t places after its own index on axis i
+unfoldable pub numeratorsFrom : ℕ → List ℕ → List ℕ → (ℕ → ℕ) → ℕ → ℕ → ℕ
+numeratorsFrom family bases vs n i t = numeratorFrom family bases vs (n i) i t
+
+-- the point of an index for each axis, 0 on the axes that the plan lacks
+unfoldable pub pointAt : ℕ → ℕ → List ℕ → List ℕ → (ℕ → ℕ) → List ℕ
+pointAt family axes bases vs n = padded 6 (listed (λ i. numeratorAt family bases vs (n i) i) axes)
 
 unfoldable pub denominatorBy : Bool → List ℕ → ℕ → ℕ
 denominatorBy true bases i = 2 ^ 32
@@ -87,3 +95,8 @@ pub record Arrays (family axes : ℕ) (bases vs : List ℕ) : Type 0 where
   pub base-low : (i : ℕ) → i < axes → (family ≡ 2 → ⊥) → 2 ≤ getD bases i 0
   pub base-high : (i : ℕ) → i < axes → (family ≡ 2 → ⊥) → getD bases i 0 ≤ 256
   pub directions-low : (j : ℕ) → getD vs j 0 < 2 ^ 32
+
+-- and of the indexes, one for each axis: k places after each is at most 2^32
+pub record Within (ns : List ℕ) (k : ℕ) : Type 0 where
+  pub long : length ns ≡ 6
+  pub at : (i : ℕ) → getD ns i 0 + k ≤ 2 ^ 32

@@ -1,3 +1,3 @@
 pub mod Point
-pub mod Run
 pub mod Arrays
+pub mod Run

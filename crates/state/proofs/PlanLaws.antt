@@ -1,4 +1,5 @@
--- The plan that a state holds is the plan that it was made of: the given m's are the first direction numbers, shifted back. Assumes nothing.
+-- The plan and the run that a state holds are those that it was made of: the given m's are the first direction numbers, shifted back. Assumes
+-- nothing.
 use mathlib.Core.Path.{_≡_, refl, sym, ap, ap₂, _∙_}
 use mathlib.Core.List.{List, [], _∷_, _++_}
 use Prim.Native.Nat.{ℕ, zero, suc, _+_, _-_, _*_, _/_, _%_, _^_, _≤_, _<_}
@@ -17,10 +18,10 @@ use Rattle.plan.specs.Plan.{Axis, noAxis, Plan, halton, sobol, ValidAxes, Valid
 use Rattle.plan.specs.Answer.{polynomialsOf, axisAt, axesOf, planBy, planOf}
 use Rattle.plan.proofs.AnswerLaws.{polynomial-at}
 use Rattle.points.specs.Point.{axisCount, axisDirections}
-use Rattle.points.specs.Run.{Run}
+use Rattle.points.specs.Run.{Run, runOf}
 use Rattle.points.specs.Arrays.{familyOf, basesArray, polynomialsArray, directionsIn, directionsArray, directionsAt}
 use Rattle.points.proofs.ArrayLaws.{directions-in-at}
-use Rattle.state.specs.State.{mAt, msIn, planIn, made}
+use Rattle.state.specs.State.{mAt, msIn, planIn, runIn, made}
 
 -- ---- an axis's m's by its direction numbers
 
@@ -78,3 +79,7 @@ pub plan-in-made : (p : Plan) → Valid p → (r : Run) (taken : ℕ) → planIn
 unfolding planIn made Valid planOf planBy familyOf axisCount basesArray polynomialsArray directionsArray
 plan-in-made (halton family bases) v r taken = rw (ne-eqb family 2 (v .0 .1)) (ap (halton family) (padded-take 6 bases (length bases) refl))
 plan-in-made (sobol axes) v r taken = ap sobol (axes-back axes (v .0 .1) (v .1) (length axes) (omega arith) ∙ take-length axes)
+
+pub run-in-made : (p : Plan) (r : Run) → length (r .starts) ≡ axisCount p → (taken : ℕ) → runIn (made p r taken) ≡ r
+unfolding made
+run-in-made p r long taken = ap (λ (starts : List ℕ). runOf starts (r .count)) (padded-take 6 (r .starts) (axisCount p) long)

@@ -40,7 +40,7 @@ same-state-refl s =
     (true-both (same (s .family))
     (true-both (same (s .axes))
     (true-both (same-words-refl (s .bases)) (true-both (same-words-refl (s .polynomials)) (same-words-refl (s .directions))))))
-    (true-both (same (s .start)) (true-both (same (s .count)) (true-both (same (s .taken)) (same-words-refl (s .numerators)))))
+    (true-both (same-words-refl (s .starts)) (true-both (same (s .count)) (true-both (same (s .taken)) (same-words-refl (s .numerators)))))
 
 pub same-state-is : (s t : Sampler) → sameState s t ≡ true → s ≡ t
 unfolding sameState samePlan sameRun
@@ -60,7 +60,7 @@ same-state-is s t e =
       bases = same-words-is (s .bases) (t .bases) (p3 .0) j;
       polynomials = same-words-is (s .polynomials) (t .polynomials) (p4 .0) j;
       directions = same-words-is (s .directions) (t .directions) (p4 .1) j;
-      start = eqb-true (s .start) (t .start) (r1 .0) j;
+      starts = same-words-is (s .starts) (t .starts) (r1 .0) j;
       count = eqb-true (s .count) (t .count) (r2 .0) j;
       taken = eqb-true (s .taken) (t .taken) (r3 .0) j;
       numerators = same-words-is (s .numerators) (t .numerators) (r3 .1) j;

@@ -13,12 +13,13 @@ use Rattle.plan.specs.Reading.{accepted}
 use Rattle.plan.specs.Answer.{answerOf, axesOf, planBy, planOf, planAnswered, Accepted}
 use Rattle.plan.specs.declared.PlanRead.{PlanRead}
 use Rattle.points.specs.Point.{axisCount, pointOf}
-use Rattle.points.specs.Run.{Run, runPoint}
-use Rattle.points.specs.Arrays.{familyOf, basesArray, polynomialsArray, directionsIn, directionsArray, pointAt, Arrays}
+use Rattle.points.specs.Run.{Run, runOf, indexAt, runPoint}
+use Rattle.points.specs.Arrays.{familyOf, basesArray, polynomialsArray, directionsIn, directionsArray, pointAt, Arrays, Within}
 use Rattle.points.proofs.PointLaws.{axis-count}
-use Rattle.points.proofs.ArrayLaws.{arrays-of, point-at-plan}
-use Rattle.points.proofs.RunLaws.{run-point}
-use Rattle.state.specs.State.{nextPoint, made, blank, planIn, runIn, genuine}
+use Rattle.points.proofs.WordLaws.{point-at-same}
+use Rattle.points.proofs.ArrayLaws.{arrays-of, point-at-plan, point-at-step}
+use Rattle.points.proofs.RunLaws.{opens-within, index-padded}
+use Rattle.state.specs.State.{stateOf, nextPoint, made, blank, planIn, runIn, genuine}
 use Rattle.state.specs.declared.Sampler.{Sampler}
 use Rattle.state.proofs.GenuineLaws.{Genuine, genuine-is}
 
@@ -44,43 +45,36 @@ module _ {p : Plan} {family axes : ℕ} {bases vs : List ℕ} (h : Holds p famil
   pub holds-arrays : Arrays family axes bases vs
   holds-arrays = rw (h .family-is, h .axes-is, h .bases-is, h .directions-is) (arrays-of p v)
 
-  pub holds-point : (n : ℕ) → pointAt family axes bases vs n ≡ padded 6 (pointOf p n)
+  pub holds-point : (n : ℕ) → pointAt family axes bases vs (λ i. n) ≡ padded 6 (pointOf p n)
   holds-point n = rw (h .family-is, h .axes-is, h .bases-is, h .directions-is) (point-at-plan p v n)
 
-  -- the points of a run
-  module _ (r : Run) where
-    pub holds-step : (t : ℕ) → pointAt family axes bases vs (r .start + t) ≡ padded 6 (runPoint p r t)
-    holds-step t = holds-point (r .start + t) ∙ ap (padded 6) (sym (run-point p r t))
+  -- the points of a run, by its starts with zeros after them
+  module _ (r : Run) {starts : List ℕ} (e : starts ≡ padded 6 (r .starts)) where
+    pub holds-step : (t : ℕ) → pointAt family axes bases vs (λ i. indexAt (runOf starts (r .count)) i t) ≡ padded 6 (runPoint p r t)
+    holds-step t =
+        point-at-same family axes bases vs _ _ (λ i l. ap (λ (x : List ℕ). indexAt (runOf x (r .count)) i t) e ∙ index-padded (r .starts) (r .count) i t)
+        ∙ rw (h .family-is, h .axes-is, h .bases-is, h .directions-is) (point-at-step p v r t)
 
     pub holds-next : (taken : ℕ)
-        → cond (ltb taken (r .count)) (pointAt family axes bases vs (r .start + taken)) (replicate 6 0) ≡ nextPoint p r taken
+        → cond (ltb taken (r .count)) (pointAt family axes bases vs (λ i. indexAt (runOf starts (r .count)) i taken)) (replicate 6 0) ≡ nextPoint p r taken
     unfolding nextPoint
     holds-next taken = ap (λ (x : List ℕ). cond (ltb taken (r .count)) x (replicate 6 0)) (holds-step taken)
 
 -- the state of these arrays
-pub holds-made : {p : Plan} {family axes : ℕ} {bases vs : List ℕ} → Holds p family axes bases vs → (ps x : List ℕ) (r : Run) (taken : ℕ)
-    → ps ≡ polynomialsArray p → x ≡ nextPoint p r taken
-    → _≡_ {A = Sampler} (record {
-      family = family;
-      axes = axes;
-      bases = bases;
-      polynomials = ps;
-      directions = vs;
-      start = r .start;
-      count = r .count;
-      taken = taken;
-      numerators = x;
-    }) (made p r taken)
+pub holds-made : {p : Plan} {family axes : ℕ} {bases vs : List ℕ} → Holds p family axes bases vs
+    → (ps starts : List ℕ) (count taken : ℕ) (x : List ℕ) (r : Run)
+    → ps ≡ polynomialsArray p → starts ≡ padded 6 (r .starts) → count ≡ r .count → x ≡ nextPoint p r taken
+    → stateOf family axes bases ps vs starts count taken x ≡ made p r taken
 unfolding made
-holds-made h ps x r taken e f =
+holds-made h ps starts count taken x r e b n f =
     λ j. record {
       family = h .family-is j;
       axes = h .axes-is j;
       bases = h .bases-is j;
       polynomials = e j;
       directions = h .directions-is j;
-      start = r .start;
-      count = r .count;
+      starts = b j;
+      count = n j;
       taken = taken;
       numerators = f j;
     }
@@ -155,18 +149,22 @@ module _ {s : Sampler} (g : Genuine s) where
   pub genuine-arrays : Arrays (s .family) (s .axes) (s .bases) (s .directions)
   genuine-arrays = holds-arrays genuine-holds (g .valid)
 
-  pub genuine-point : (n : ℕ) → pointAt (s .family) (s .axes) (s .bases) (s .directions) n ≡ padded 6 (pointOf (planIn s) n)
+  pub genuine-point : (n : ℕ) → pointAt (s .family) (s .axes) (s .bases) (s .directions) (λ i. n) ≡ padded 6 (pointOf (planIn s) n)
   genuine-point = holds-point genuine-holds (g .valid)
 
-  -- where a point is left, the state has it
-  pub genuine-current : s .taken < s .count → s .numerators ≡ pointAt (s .family) (s .axes) (s .bases) (s .directions) (s .start + s .taken)
-  genuine-current h =
-      genuine-next ∙ sym (next-some (planIn s) (runIn s) (s .taken) h) ∙ sym (holds-step genuine-holds (g .valid) (runIn s) (s .taken))
+  -- the starts, with zeros after them
+  pub genuine-starts : s .starts ≡ padded 6 (runIn s .starts)
+  unfolding made
+  genuine-starts = ap (λ (t : Sampler). t .starts) (g .is)
 
-  -- the next point of any run, by the state's arrays
-  pub genuine-next-of : (r : Run) (taken : ℕ)
-      → cond (ltb taken (r .count)) (pointAt (s .family) (s .axes) (s .bases) (s .directions) (r .start + taken)) (replicate 6 0) ≡ nextPoint (planIn s) r taken
-  genuine-next-of = holds-next genuine-holds (g .valid)
+  pub genuine-within : Within (s .starts) (s .count)
+  genuine-within = rw (genuine-starts) (opens-within (g .run .opens) (g .valid))
+
+  -- where a point is left, the state has it
+  pub genuine-current : s .taken < s .count
+      → s .numerators ≡ pointAt (s .family) (s .axes) (s .bases) (s .directions) (λ i. indexAt (runOf (s .starts) (s .count)) i (s .taken))
+  genuine-current h =
+      genuine-next ∙ sym (next-some (planIn s) (runIn s) (s .taken) h) ∙ sym (holds-step genuine-holds (g .valid) (runIn s) genuine-starts (s .taken))
 
 -- the blank state has no axes, and no plan is so
 pub blank-foreign : genuine blank ≡ false

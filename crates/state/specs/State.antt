@@ -3,13 +3,13 @@ use mathlib.Core.List.{List, [], _∷_}
 use mathlib.Core.Bool.{Bool, true, false, cond}
 use Prim.Native.Nat.{ℕ, _+_, _-_, _*_, _/_, _%_, _^_}
 use lib.Dec.{ltb, leb, eqb}
-use lib.ListN.{getD, replicate}
+use lib.ListN.{getD, replicate, take}
 use Rattle.numbers.specs.Listed.{listed, padded}
 use Rattle.plan.specs.Plan.{Plan, spell}
 use Rattle.plan.specs.Reading.{Reading, refused, accepted, readPlan}
 use Rattle.plan.specs.Answer.{planOf}
 use Rattle.points.specs.Point.{axisCount}
-use Rattle.points.specs.Run.{Run, runOf, inRange, runPoint}
+use Rattle.points.specs.Run.{Run, runOf, inRange, hasStarts, runPoint}
 use Rattle.points.specs.Arrays.{familyOf, basesArray, polynomialsArray, directionsArray}
 use Rattle.state.specs.declared.Sampler.{Sampler}
 
@@ -19,14 +19,14 @@ both true b = b
 both false b = false
 
 -- a state by its words, in the struct's order
-abbrev pub stateOf : ℕ → ℕ → List ℕ → List ℕ → List ℕ → ℕ → ℕ → ℕ → List ℕ → Sampler
-stateOf family axes bases polynomials directions start count taken numerators = record {
+abbrev pub stateOf : ℕ → ℕ → List ℕ → List ℕ → List ℕ → List ℕ → ℕ → ℕ → List ℕ → Sampler
+stateOf family axes bases polynomials directions starts count taken numerators = record {
   family = family;
   axes = axes;
   bases = bases;
   polynomials = polynomials;
   directions = directions;
-  start = start;
+  starts = starts;
   count = count;
   taken = taken;
   numerators = numerators;
@@ -46,7 +46,7 @@ made p r taken = record {
   bases = basesArray p;
   polynomials = polynomialsArray p;
   directions = directionsArray p;
-  start = r .start;
+  starts = padded 6 (r .starts);
   count = r .count;
   taken = taken;
   numerators = nextPoint p r taken;
@@ -60,7 +60,7 @@ blank = record {
   bases = replicate 6 0;
   polynomials = replicate 6 0;
   directions = replicate 192 0;
-  start = 0;
+  starts = replicate 6 0;
   count = 0;
   taken = 0;
   numerators = replicate 6 0;
@@ -79,13 +79,13 @@ unfoldable pub planIn : Sampler → Plan
 planIn s = planOf (s .family) (s .axes) (s .bases) (s .polynomials) (msIn (s .directions))
 
 abbrev pub runIn : Sampler → Run
-runIn s = runOf (s .start) (s .count)
+runIn s = runOf (take (s .axes) (s .starts)) (s .count)
 
 -- ---- the test
 
--- the run is permitted, and no more points are taken than it has
-unfoldable pub permitted : Run → ℕ → Bool
-permitted r taken = both (inRange r) (leb taken (r .count))
+-- an opening takes the run, and no more points are taken than it has
+unfoldable pub permitted : Plan → Run → ℕ → Bool
+permitted p r taken = both (inRange r) (both (hasStarts (familyOf p) (axisCount p) (r .starts)) (leb taken (r .count)))
 
 unfoldable pub sameWords : List ℕ → List ℕ → Bool
 sameWords [] [] = true
@@ -100,7 +100,7 @@ samePlan s t =
 
 unfoldable pub sameRun : Sampler → Sampler → Bool
 sameRun s t =
-    both (eqb (s .start) (t .start)) (both (eqb (s .count) (t .count)) (both (eqb (s .taken) (t .taken)) (sameWords (s .numerators) (t .numerators))))
+    both (sameWords (s .starts) (t .starts)) (both (eqb (s .count) (t .count)) (both (eqb (s .taken) (t .taken)) (sameWords (s .numerators) (t .numerators))))
 
 unfoldable pub sameState : Sampler → Sampler → Bool
 sameState s t = both (samePlan s t) (sameRun s t)
@@ -108,7 +108,7 @@ sameState s t = both (samePlan s t) (sameRun s t)
 unfoldable pub genuineBy : Reading → Sampler → Bool
 genuineBy (refused n) s = false
 genuineBy (accepted p) s =
-    both (permitted (runIn s) (s .taken)) (sameState s (made p (runIn s) (s .taken)))
+    both (permitted p (runIn s) (s .taken)) (sameState s (made p (runIn s) (s .taken)))
 
 -- A state is genuine if the plan that it holds, spelled and read again, makes the very same state. Any other is foreign (number 15).
 unfoldable pub genuine : Sampler → Bool

@@ -8,19 +8,19 @@ ghost use lib.ListN.{length, replicate};
 ghost use Rattle.numbers.specs.Listed.{padded};
 ghost use Rattle.plan.specs.Plan.{Valid, sobol};
 ghost use Rattle.plan.specs.Answer.{axesOf, planAnswered, Accepted};
-ghost use Rattle.points.specs.Arrays.{directionsIn, directionsArray, Arrays, pointAt};
-ghost use Rattle.points.specs.Run.{runOf};
+ghost use Rattle.points.specs.Arrays.{directionsIn, directionsArray, Arrays, Within, pointAt};
+ghost use Rattle.points.specs.Run.{runOf, oneStart, indexAt, Opens};
 ghost use Rattle.state.specs.State.{planIn, nextPoint, made, blank, genuine};
 
-// A sampler: its plan, its run, and how many of the run's points are taken. `directions` has 32 words for each Sobol axis; `numerators` is
-// the next point, and 0 where none is left. Entries that are not used are 0.
+// A sampler: its plan, its run, and how many of the run's points are taken. `directions` has 32 words for each Sobol axis; `starts` is the index
+// of the run's first point on each axis; `numerators` is the next point, and 0 where none is left. Entries that are not used are 0.
 pub struct Sampler {
     pub family: u64,
     pub axes: usize,
     pub bases: [u64; 6],
     pub polynomials: [u64; 6],
     pub directions: [u64; 192],
-    pub start: u64,
+    pub starts: [u64; 6],
     pub count: u64,
     pub taken: u64,
     pub numerators: [u64; 6],
@@ -36,7 +36,7 @@ pub fn blank_state() -> Sampler
         bases: [0; 6],
         polynomials: [0; 6],
         directions: [0; 192],
-        start: 0,
+        starts: [0; 6],
         count: 0,
         taken: 0,
         numerators: [0; 6],
@@ -76,50 +76,54 @@ pub fn plan_directions(a: PlanRead) -> [u64; 192]
     direction_table(a.axes, &polynomials, &ms)
 }
 
-// The point of index start + taken, and zeros where no point is left.
+// The point of step `taken`, and zeros where no point is left.
 pub fn next_point<'a>(
     family: u64,
     axes: usize,
     bases: &'a [u64],
     directions: &'a [u64],
-    start: u64,
+    starts: &[u64],
     count: u64,
     taken: u64,
 ) -> [u64; 6]
-    requires { ⌜ Arrays family axes (now bases) (now directions) × (start + count ≤ 2 ^ 32) ⌝ }
-    ensures { λ r. ⌜ r ≡ cond (ltb taken count) (pointAt family axes (now (bases .entry)) (now (directions .entry)) (start + taken)) (replicate 6 0) ⌝ }
+    requires { ⌜ Arrays family axes (now bases) (now directions) × Within (now starts) count ⌝ }
+    ensures { λ r. ⌜ r ≡ cond (ltb taken count)
+        (pointAt family axes (now (bases .entry)) (now (directions .entry)) (λ i. indexAt (runOf (now (starts .entry)) count) i taken)) (replicate 6 0) ⌝ }
 {
     if taken < count {
-        return points::point(family, axes, bases, directions, start + taken);
+        let ns = points::indexes(starts, taken);
+        return points::point(family, axes, bases, directions, &ns);
     }
     [0; 6]
 }
 
-// The point after that of index start + taken, which is `x`, by a step, and zeros where none is left.
+// The point after that of step `taken`, which is `x`, by a step, and zeros where none is left.
 pub fn point_after<'a>(
     family: u64,
     axes: usize,
     bases: &'a [u64],
     directions: &'a [u64],
-    start: u64,
+    starts: &[u64],
     count: u64,
     taken: u64,
     x: [u64; 6],
 ) -> [u64; 6]
-    requires { ⌜ Arrays family axes (now bases) (now directions) × (start + count ≤ 2 ^ 32) × (taken < count)
-        × (x ≡ pointAt family axes (now bases) (now directions) (start + taken)) ⌝ }
-    ensures { λ r. ⌜ r ≡ cond (ltb (taken + 1) count) (pointAt family axes (now (bases .entry)) (now (directions .entry)) (start + (taken + 1))) (replicate 6 0) ⌝ }
+    requires { ⌜ Arrays family axes (now bases) (now directions) × Within (now starts) count × (taken < count)
+        × (x ≡ pointAt family axes (now bases) (now directions) (λ i. indexAt (runOf (now starts) count) i taken)) ⌝ }
+    ensures { λ r. ⌜ r ≡ cond (ltb (taken + 1) count)
+        (pointAt family axes (now (bases .entry)) (now (directions .entry)) (λ i. indexAt (runOf (now (starts .entry)) count) i (taken + 1))) (replicate 6 0) ⌝ }
 {
     if taken + 1 < count {
-        return points::advance(family, axes, bases, directions, start + taken, x);
+        let ns = points::indexes(starts, taken);
+        return points::advance(family, axes, bases, directions, &ns, x);
     }
     [0; 6]
 }
 
-// The state with a plan that the reader accepted, and the run that starts at 0 and has no points.
+// The state with a plan that the reader accepted, and the run that starts at 0 on each axis and has no points.
 pub fn make(a: PlanRead) -> Sampler
     requires { ⌜ Accepted a ⌝ }
-    ensures { λ r. ⌜ r ≡ made (planAnswered a) (runOf 0 0) 0 ⌝ }
+    ensures { λ r. ⌜ r ≡ made (planAnswered a) (oneStart (planAnswered a) 0 0) 0 ⌝ }
 {
     let bases = a.bases;
     let polynomials = a.polynomials;
@@ -130,20 +134,21 @@ pub fn make(a: PlanRead) -> Sampler
         bases,
         polynomials,
         directions,
-        start: 0,
+        starts: [0; 6],
         count: 0,
         taken: 0,
         numerators: [0; 6],
     }
 }
 
-// A genuine state with another run, so many of whose points are taken, and the point that is next then.
-pub fn with_run(s: Sampler, start: u64, count: u64, taken: u64, next: [u64; 6]) -> Sampler
-    requires { ⌜ (genuine s ≡ true) × (next ≡ nextPoint (planIn s) (runOf start count) taken) ⌝ }
-    ensures { λ r. ⌜ r ≡ made (planIn s) (runOf start count) taken ⌝ }
+// A genuine state with another run, so many of whose points are taken, and the point that is next then. The starts have zeros after them.
+pub fn with_run(s: Sampler, starts: [u64; 6], count: u64, taken: u64, next: [u64; 6]) -> Sampler
+    requires { ⌜ genuine s ≡ true ⌝ }
+    ensures { λ r. ⌜ (run : Run) → starts ≡ padded 6 (run .starts) → count ≡ run .count → next ≡ nextPoint (planIn s) run taken
+        → r ≡ made (planIn s) run taken ⌝ }
 {
     let mut t = s;
-    t.start = start;
+    t.starts = starts;
     t.count = count;
     t.taken = taken;
     t.numerators = next;
