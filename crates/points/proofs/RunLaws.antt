@@ -9,12 +9,13 @@ use native.Mathlib.Nat.{add-assoc}
 use native.Mathlib.Omega.{arith}
 use lib.Dec.{leb, eqb}
 use lib.ListN.{length, getD, replicate, length-replicate, getD-replicate, List·getD-eq-default}
+use lib.Seq.{ext-getD}
 use borrow.Author.Tests.{leb-true, le-leb, lt-leb, eq-eqb, ne-eqb, eqb-true}
 use Rattle.numbers.specs.Count.{each}
 use Rattle.numbers.specs.Listed.{listed, padded}
 use Rattle.numbers.proofs.Cases.{lt-or-ge, eq-or-ne}
 use Rattle.numbers.proofs.EachLaws.{each-at, each-all, each-fail}
-use Rattle.numbers.proofs.ListedLaws.{listed-length, listed-at, listed-same, padded-length, padded-at}
+use Rattle.numbers.proofs.ListedLaws.{listed-length, listed-at, listed-same, zeros-at, padded-length, padded-at}
 use Rattle.plan.specs.Plan.{Plan, Valid}
 use Rattle.points.specs.Point.{axisCount, numeratorOf, pointOf}
 use Rattle.points.specs.Arrays.{familyOf, Within}
@@ -154,6 +155,28 @@ module _ (r : Run) (t : ℕ) where
   unfolding indexesAt indexAt padded
   indexes-of-six six = rw (listed-length (λ i. getD (r .starts) i 0 + t) 6, six) (append-nil _)
 
+-- ---- of six starts
+
+module _ {starts : List ℕ} {k : ℕ} (w : Within starts k) where
+  pub within-less : {j : ℕ} → j ≤ k → Within starts j
+  within-less h = record { long = w .long; at = λ i. omega (arith, w .at i) }
+
+  module _ (count t : ℕ) where
+    pub six-at : (i : ℕ) → i < 6 → getD (indexesAt (runOf starts count) t) i 0 ≡ indexAt (runOf starts count) i t
+    six-at i h = indexes-at (runOf starts count) t i (omega (arith, w .long))
+
+    -- t places on, as many fewer are left
+    pub within-on : {j : ℕ} → t + j ≤ k → Within (indexesAt (runOf starts count) t) j
+    unfolding indexAt
+    within-on {j} h = record { long = indexes-length (runOf starts count) t ∙ w .long; at = λ i. ⊎-elim (here i) (beyond i) (lt-or-ge i 6) }
+      where
+        here : (i : ℕ) → i < 6 → getD (indexesAt (runOf starts count) t) i 0 + j ≤ 2 ^ 32
+        here i l = omega (arith, six-at i l, w .at i)
+
+        beyond : (i : ℕ) → 6 ≤ i → getD (indexesAt (runOf starts count) t) i 0 + j ≤ 2 ^ 32
+        beyond i l =
+            omega (arith, w .at i, List·getD-eq-default (indexesAt (runOf starts count) t) 0 {n = i} (omega (arith, indexes-length (runOf starts count) t, w .long)))
+
 -- zeros behind the starts change no index
 pub index-padded : (starts : List ℕ) (count i t : ℕ) → indexAt (runOf (padded 6 starts) count) i t ≡ indexAt (runOf starts count) i t
 unfolding indexAt
@@ -208,6 +231,18 @@ module _ (p : Plan) (start count : ℕ) where
   one-at : (i : ℕ) → i < axisCount p → getD (oneStart p start count .starts) i 0 ≡ start
   unfolding oneStart
   one-at i h = getD-replicate (axisCount p) i start 0 h
+
+  -- starts at 0, with zeros after them
+  pub one-zeros : axisCount p ≤ 6 → start ≡ 0 → replicate 6 0 ≡ padded 6 (oneStart p start count .starts)
+  one-zeros few e =
+      let starts = oneStart p start count .starts in
+      ext-getD 0 (replicate 6 0) (padded 6 starts) (sym (padded-length 6 starts (omega (arith, one-long))))
+      (λ i l. zeros-at 6 i ∙ sym (padded-at 6 starts i ∙ none i))
+    where
+      none : (i : ℕ) → getD (oneStart p start count .starts) i 0 ≡ 0
+      none i =
+          ⊎-elim (λ h. one-at i h ∙ e) (λ h. List·getD-eq-default (oneStart p start count .starts) 0 {n = i} (omega (arith, one-long)))
+          (lt-or-ge i (axisCount p))
 
   -- it has one for each axis, and shared
   pub one-has : hasStarts (familyOf p) (axisCount p) (oneStart p start count .starts) ≡ true

@@ -9,7 +9,7 @@ ghost use Rattle.numbers.specs.Listed.{padded};
 ghost use Rattle.plan.specs.Plan.{Valid, sobol};
 ghost use Rattle.plan.specs.Answer.{axesOf, planAnswered, Accepted};
 ghost use Rattle.points.specs.Arrays.{directionsIn, directionsArray, Arrays, Within, pointAt};
-ghost use Rattle.points.specs.Run.{runOf, oneStart, indexAt, Opens};
+ghost use Rattle.points.specs.Run.{Run, runOf, oneStart, indexAt};
 ghost use Rattle.state.specs.State.{planIn, nextPoint, made, blank, genuine};
 
 // A sampler: its plan, its run, and how many of the run's points are taken. `directions` has 32 words for each Sobol axis; `starts` is the index
@@ -144,8 +144,8 @@ pub fn make(a: PlanRead) -> Sampler
 // A genuine state with another run, so many of whose points are taken, and the point that is next then. The starts have zeros after them.
 pub fn with_run(s: Sampler, starts: [u64; 6], count: u64, taken: u64, next: [u64; 6]) -> Sampler
     requires { ⌜ genuine s ≡ true ⌝ }
-    ensures { λ r. ⌜ (run : Run) → starts ≡ padded 6 (run .starts) → count ≡ run .count → next ≡ nextPoint (planIn s) run taken
-        → r ≡ made (planIn s) run taken ⌝ }
+    ensures { λ r. ⌜ ((run : Run) → starts ≡ padded 6 (run .starts) → count ≡ run .count → next ≡ nextPoint (planIn s) run taken
+        → r ≡ made (planIn s) run taken) ⌝ }
 {
     let mut t = s;
     t.starts = starts;

@@ -1,5 +1,4 @@
 -- `state::with_run` meets its contract: a genuine state's arrays are its plan's; the run and the next point are stored. Assumes nothing.
-use Rattle.points.specs.Run.{runOf}
 use Rattle.state.proofs.GenuineLaws.{genuine-is}
 use Rattle.state.proofs.StateLaws.{holds-made, genuine-holds, genuine-polynomials}
 use Rattle.state.proofs.with_run.Statement.{statement}
@@ -8,8 +7,8 @@ use Rattle.state.proofs.with_run.Tie as tie
 returns : tie.Need-returns
 returns c =
     let a = c .args in
-    let g = genuine-is (a .s) (c .pre .0) in
-    holds-made (genuine-holds g) (a .s .polynomials) (a .next) (runOf (a .start) (a .count)) (a .taken) (genuine-polynomials g) (c .pre .1)
+    let g = genuine-is (a .s) (c .pre) in
+    λ run e n f. holds-made (genuine-holds g) (a .s .polynomials) (a .starts) (a .count) (a .taken) (a .next) run (genuine-polynomials g) e n f
 
 pub with-run-spec : {M : Type 1} → statement M
 with-run-spec = tie.close (tie.spec returns)
