@@ -9,7 +9,7 @@ use lib.ListN.{length, getD, take, drop, replicate, length-append, length-drop, 
 use lib.Seq.{getD-at, getD-take, length-take-le}
 use Rattle.numbers.specs.Listed.{listed, padded}
 use Rattle.numbers.proofs.Cases.{lt-or-ge, eq-or-ne}
-use Rattle.numbers.proofs.ListedLaws.{padded-length, padded-at, listed-length, listed-at}
+use Rattle.numbers.proofs.ListedLaws.{padded-length, padded-at, padded-take, listed-length, listed-at}
 use Rattle.sobol.proofs.DirectionLaws.{directions-length}
 use Rattle.plan.specs.Plan.{Axis, noAxis, Plan, halton, sobol, ValidBases, ValidAxes, OneToSix, Valid}
 use Rattle.plan.specs.Answer.{polynomialsOf}
@@ -17,16 +17,16 @@ use Rattle.plan.proofs.PlaceLaws.{length-snoc}
 use Rattle.plan.proofs.ValidLaws.{no-axes, axes-snoc}
 use Rattle.plan.proofs.AnswerLaws.{length-polynomials, polynomial-at}
 use Rattle.points.specs.Point.{axisCount, axisDirections}
-use Rattle.points.specs.Run.{Run, runPoint}
-use Rattle.points.specs.Arrays.{familyOf, basesArray, polynomialsArray, directionsIn, directionsArray, directionsAt, numeratorAt, pointAt, Arrays}
+use Rattle.points.specs.Run.{Run, runOf, indexAt, runPoint}
+use Rattle.points.specs.Arrays.{familyOf, basesArray, polynomialsArray, directionsIn, directionsArray, directionsAt, numeratorAt, pointAt, Arrays, Within}
 use Rattle.points.proofs.PointLaws.{axis-count}
 use Rattle.points.proofs.ArrayLaws.{directions-in-at, arrays-of}
-use Rattle.points.proofs.RunLaws.{run-point-length}
+use Rattle.points.proofs.RunLaws.{opens-long, opens-within, run-point-length}
 use Rattle.state.specs.State.{planIn, runIn, nextPoint, made, genuine}
 use Rattle.state.specs.declared.Sampler.{Sampler}
-use Rattle.state.proofs.GenuineLaws.{Permitted, permitted-is, is-permitted, genuine-is, made-genuine}
+use Rattle.state.proofs.GenuineLaws.{Permitted, genuine-is, made-genuine}
 use Rattle.state.proofs.StateLaws.{Holds, holds-made, holds-arrays, holds-step, next-some, next-none}
-use Rattle.fitting.specs.Fits.{ZeroFrom, FitHalton, FitAxes, FitSobol, FitPlan, FitPoint, FitNext, Fits}
+use Rattle.fitting.specs.Fits.{ZeroFrom, FitHalton, FitAxes, FitSobol, FitPlan, FitRun, FitPoint, FitNext, Fits}
 use Rattle.fitting.proofs.ZeroLaws.{zeros-zero, zero-is, padded-zero, padded-is, block-at}
 use Rattle.fitting.proofs.AxisLaws.{axisOf, valid-axis, axis-directions-are, axis-fit}
 
@@ -93,34 +93,51 @@ module _ (ps vs : List ℕ) where
 
 -- ---- the next point
 
-module _ {p : Plan} {family axes : ℕ} {bases vs : List ℕ} (h : Holds p family axes bases vs) (v : Valid p) (x : List ℕ) (r : Run) (taken : ℕ) where
-  next-is : axes ≤ 6 → length x ≡ 6 → FitNext family axes bases vs x r taken → x ≡ nextPoint p r taken
+module _ {p : Plan} {family axes : ℕ} {bases vs : List ℕ} (h : Holds p family axes bases vs) (v : Valid p) (x starts : List ℕ) (r : Run)
+  (e : starts ≡ padded 6 (r .starts)) (taken : ℕ) where
+  abbrev six : Run
+  six = runOf starts (r .count)
+
+  abbrev word : ℕ → ℕ
+  word i = numeratorAt family bases vs (indexAt six i taken) i
+
+  next-is : axes ≤ 6 → length x ≡ 6 → FitNext family axes bases vs x six taken → x ≡ nextPoint p r taken
   unfolding pointAt
-  next-is six e next =
+  next-is few long next =
       ⊎-elim
       (λ q.
       let f = next .some q in
-      let g = numeratorAt family bases vs (r .start + taken) in
-      padded-is 6 x (listed g axes) axes e (listed-length g axes) six (λ i l. f .word i l ∙ sym (listed-at g axes i l)) (f .zero-after)
-      ∙ holds-step h v r taken ∙ next-some p r taken q)
-      (λ q. zero-is 6 x e (next .none q) ∙ next-none p r taken q)
+      padded-is 6 x (listed word axes) axes long (listed-length word axes) few (λ i l. f .word i l ∙ sym (listed-at word axes i l)) (f .zero-after)
+      ∙ holds-step h v r e taken ∙ next-some p r taken q)
+      (λ q. zero-is 6 x long (next .none q) ∙ next-none p r taken q)
       (lt-or-ge taken (r .count))
 
-  point-fits : FitPoint family axes bases vs (pointAt family axes bases vs (r .start + taken)) (r .start + taken)
+  point-fits : FitPoint family axes bases vs (pointAt family axes bases vs (λ i. indexAt six i taken)) (λ i. indexAt six i taken)
   unfolding pointAt
   point-fits =
-      let g = numeratorAt family bases vs (r .start + taken) in
       record {
-        word = λ i l. padded-at 6 (listed g axes) i ∙ listed-at g axes i l;
-        zero-after = padded-zero 6 (listed g axes) axes (listed-length g axes);
+        word = λ i l. padded-at 6 (listed word axes) i ∙ listed-at word axes i l;
+        zero-after = padded-zero 6 (listed word axes) axes (listed-length word axes);
       }
 
-  is-next : x ≡ nextPoint p r taken → FitNext family axes bases vs x r taken
-  is-next e =
+  is-next : x ≡ nextPoint p r taken → FitNext family axes bases vs x six taken
+  is-next is =
       record {
-        some = λ q. rw (e ∙ sym (next-some p r taken q) ∙ sym (holds-step h v r taken)) point-fits;
-        none = λ q. rw (e ∙ sym (next-none p r taken q)) (zeros-zero 6 0);
+        some = λ q. rw (is ∙ sym (next-some p r taken q) ∙ sym (holds-step h v r e taken)) point-fits;
+        none = λ q. rw (is ∙ sym (next-none p r taken q)) (zeros-zero 6 0);
       }
+
+-- ---- the run
+
+module _ {family axes : ℕ} {starts : List ℕ} {count taken : ℕ} (few : OneToSix axes) (long : length starts ≡ 6)
+  (f : FitRun family axes starts count taken) where
+  -- zeros follow the starts
+  starts-are : starts ≡ padded 6 (take axes starts)
+  starts-are =
+      padded-is 6 starts (take axes starts) axes long (length-take-le axes starts (omega arith)) (few .1) (λ i h. sym (getD-take axes starts i 0 h)) (f .starts-zero)
+
+  run-permitted : {p : Plan} → family ≡ familyOf p → axes ≡ axisCount p → Permitted p (runOf (take axes starts) count) taken
+  run-permitted e k = record { opens = record { in-range = f .in-range; has-starts = rw (← e, ← k) (f .has-starts) }; not-past = f .not-past }
 
 -- ---- arrays that fit are a valid plan's
 
@@ -177,13 +194,21 @@ module _ (family axes : ℕ) (bases ps vs : List ℕ) (few : OneToSix axes) (lon
   pub fit-arrays : FitPlan family axes bases ps vs → Arrays family axes bases vs
   fit-arrays f = let h = held f in holds-arrays (h .holds) (h .valid)
 
+  -- and the indexes
+  pub fit-within : {starts : List ℕ} {count taken : ℕ} → length starts ≡ 6 → FitPlan family axes bases ps vs → FitRun family axes starts count taken
+      → Within starts count
+  fit-within six f r =
+      let h = held f in
+      rw (starts-are few six r) (opens-within (run-permitted few six r (h .holds .family-is) (h .holds .axes-is) .opens) (h .valid))
+
 fits-genuine : (s : Sampler) → Fits s → genuine s ≡ true
 fits-genuine s f =
     let h = held (s .family) (s .axes) (s .bases) (s .polynomials) (s .directions) (f .few) (f .sized .bases) (f .sized .polynomials) (f .sized .directions) (f .plan) in
+    let starts = starts-are (f .few) (f .sized .starts) (f .run) in
     ap genuine
-    (holds-made (h .holds) (s .polynomials) (s .numerators) (runIn s) (s .taken) (h .polynomials-is)
-    (next-is (h .holds) (h .valid) (s .numerators) (runIn s) (s .taken) (f .few .1) (f .sized .numerators) (f .next)))
-    ∙ made-genuine (h .plan) (h .valid) (runIn s) (s .taken) (permitted-is (runIn s) (s .taken) (f .run))
+    (holds-made (h .holds) (s .polynomials) (s .starts) (s .count) (s .taken) (s .numerators) (runIn s) (h .polynomials-is) starts refl
+    (next-is (h .holds) (h .valid) (s .numerators) (s .starts) (runIn s) starts (s .taken) (f .few .1) (f .sized .numerators) (f .next)))
+    ∙ made-genuine (h .plan) (h .valid) (runIn s) (s .taken) (run-permitted (f .few) (f .sized .starts) (f .run) (h .holds .family-is) (h .holds .axes-is))
 
 -- ---- a state made of a valid plan fits
 
@@ -236,7 +261,7 @@ unfolding Valid polynomialsArray
 polynomials-length (halton family bases) v = refl
 polynomials-length (sobol axes) v = padded-length 6 (polynomialsOf axes) (omega (arith, length-polynomials axes))
 
-module _ (p : Plan) (v : Valid p) (r : Run) (taken : ℕ) (run : Permitted r taken) where
+module _ (p : Plan) (v : Valid p) (r : Run) (taken : ℕ) (run : Permitted p r taken) where
   next-length : length (nextPoint p r taken) ≡ 6
   next-length =
       ⊎-elim
@@ -244,17 +269,35 @@ module _ (p : Plan) (v : Valid p) (r : Run) (taken : ℕ) (run : Permitted r tak
       (λ q. rw (← next-none p r taken q) refl)
       (lt-or-ge taken (r .count))
 
+  long : length (r .starts) ≡ axisCount p
+  long = opens-long (run .opens)
+
+  run-fits : FitRun (familyOf p) (axisCount p) (padded 6 (r .starts)) (r .count) taken
+  run-fits =
+      record {
+        in-range = rw (padded-take 6 (r .starts) (axisCount p) long) (run .opens .in-range);
+        has-starts = rw (padded-take 6 (r .starts) (axisCount p) long) (run .opens .has-starts);
+        starts-zero = padded-zero 6 (r .starts) (axisCount p) long;
+        not-past = run .not-past;
+      }
+
   made-fits : Fits (made p r taken)
   unfolding made
   made-fits =
       let a = arrays-of p v in
       let h : Holds p (familyOf p) (axisCount p) (basesArray p) (directionsArray p) = record { family-is = refl; axes-is = refl; bases-is = refl; directions-is = refl } in
       record {
-        sized = record { bases = a .bases-long; polynomials = polynomials-length p v; directions = a .directions-long; numerators = next-length };
-        run = is-permitted run;
+        sized = record {
+          bases = a .bases-long;
+          polynomials = polynomials-length p v;
+          directions = a .directions-long;
+          starts = padded-length 6 (r .starts) (omega (arith, long, axis-count p v));
+          numerators = next-length;
+        };
         few = axis-count p v;
+        run = run-fits;
         plan = record { if-halton = fit-if-halton p v; if-sobol = fit-if-sobol p v };
-        next = is-next h v (nextPoint p r taken) r taken refl;
+        next = is-next h v (nextPoint p r taken) (padded 6 (r .starts)) r refl taken refl;
       }
 
 -- ---- so

@@ -1,18 +1,17 @@
 -- What a genuine state is, field by field, with no second state, no bytes and no plan: the rules of the bases, of the polynomials and of the
--- direction numbers in place, zeros wherever the plan has nothing, the run permitted, and the next point. Definitions only.
+-- direction numbers in place, zeros wherever the plan has nothing, the run, and the next point. Definitions only.
 use mathlib.Core.Path.{_≡_}
 use mathlib.Core.Bool.{true}
 use mathlib.Core.List.{List}
 use Prim.Native.Nat.{ℕ, zero, suc, _+_, _-_, _*_, _/_, _%_, _^_, _≤_, _<_}
-use lib.ListN.{length, getD}
+use lib.ListN.{length, getD, take}
 use lib.Bits.{bitXor}
 use Rattle.numbers.specs.Gcd.{Coprime}
 use Rattle.binary.specs.Gf2.{times}
 use Rattle.binary.specs.Polynomial.{degreeOf, Primitive}
 use Rattle.plan.specs.Plan.{OneToSix, HaltonFamily}
 use Rattle.points.specs.Arrays.{directionsAt, numeratorAt}
-use Rattle.points.specs.Run.{Run}
-use Rattle.state.specs.State.{runIn, permitted}
+use Rattle.points.specs.Run.{Run, runOf, indexAt, inRange, hasStarts}
 use Rattle.state.specs.declared.Sampler.{Sampler}
 
 -- 0 from place k on
@@ -97,16 +96,23 @@ pub record FitPlan (family axes : ℕ) (bases ps vs : List ℕ) : Type 0 where
   pub if-halton : (family ≡ 2 → ⊥) → FitHalton family axes bases ps vs
   pub if-sobol : family ≡ 2 → FitSobol axes bases ps vs
 
--- ---- the run's next point
+-- ---- the run and its next point
 
--- x is the point of index n
-pub record FitPoint (family axes : ℕ) (bases vs x : List ℕ) (n : ℕ) : Type 0 where
-  pub word : (i : ℕ) → i < axes → getD x i 0 ≡ numeratorAt family bases vs n i
+-- an opening takes the first `axes` starts, zeros follow, and no more points are taken than there are
+pub record FitRun (family axes : ℕ) (starts : List ℕ) (count taken : ℕ) : Type 0 where
+  pub in-range : inRange (runOf (take axes starts) count) ≡ true
+  pub has-starts : hasStarts family axes (take axes starts) ≡ true
+  pub starts-zero : ZeroFrom axes starts
+  pub not-past : taken ≤ count
+
+-- x is the point of an index for each axis
+pub record FitPoint (family axes : ℕ) (bases vs x : List ℕ) (n : ℕ → ℕ) : Type 0 where
+  pub word : (i : ℕ) → i < axes → getD x i 0 ≡ numeratorAt family bases vs (n i) i
   pub zero-after : ZeroFrom axes x
 
 -- x is the run's next point, and zeros where none is left
 pub record FitNext (family axes : ℕ) (bases vs x : List ℕ) (r : Run) (taken : ℕ) : Type 0 where
-  pub some : taken < r .count → FitPoint family axes bases vs x (r .start + taken)
+  pub some : taken < r .count → FitPoint family axes bases vs x (λ i. indexAt r i taken)
   pub none : r .count ≤ taken → ZeroFrom 0 x
 
 -- ---- the whole
@@ -115,11 +121,12 @@ pub record Sized (s : Sampler) : Type 0 where
   pub bases : length (s .bases) ≡ 6
   pub polynomials : length (s .polynomials) ≡ 6
   pub directions : length (s .directions) ≡ 192
+  pub starts : length (s .starts) ≡ 6
   pub numerators : length (s .numerators) ≡ 6
 
 pub record Fits (s : Sampler) : Type 0 where
   pub sized : Sized s
-  pub run : permitted (runIn s) (s .taken) ≡ true
   pub few : OneToSix (s .axes)
+  pub run : FitRun (s .family) (s .axes) (s .starts) (s .count) (s .taken)
   pub plan : FitPlan (s .family) (s .axes) (s .bases) (s .polynomials) (s .directions)
-  pub next : FitNext (s .family) (s .axes) (s .bases) (s .directions) (s .numerators) (runIn s) (s .taken)
+  pub next : FitNext (s .family) (s .axes) (s .bases) (s .directions) (s .numerators) (runOf (s .starts) (s .count)) (s .taken)

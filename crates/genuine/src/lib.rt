@@ -2,12 +2,12 @@
 ghost use mathlib.Core.Path.{_≡_};
 ghost use mathlib.Core.Bool.{true};
 ghost use mathlib.Core.Logic.{_↔_};
-ghost use Prim.Native.Nat.{_+_, _^_, _<_, _≤_};
+ghost use Prim.Native.Nat.{_<_, _≤_};
 ghost use lib.ListN.{length};
-ghost use Rattle.fitting.specs.Fits.{ZeroFrom, CoprimeTo, FitBases, FitHalton, NewTo, FitAxes, FitSobol, FitPlan, FitPoint, FitNext, Sized};
-ghost use Rattle.points.specs.Arrays.{Arrays};
+ghost use Rattle.fitting.specs.Fits.{ZeroFrom, CoprimeTo, FitBases, FitHalton, NewTo, FitAxes, FitSobol, FitPlan, FitRun, FitPoint, FitNext, Sized};
+ghost use Rattle.points.specs.Arrays.{ofAxis, Arrays, Within};
 ghost use Rattle.points.specs.Run.{runOf};
-ghost use Rattle.state.specs.State.{stateOf, permitted, genuine};
+ghost use Rattle.state.specs.State.{stateOf, genuine};
 
 // Whether the words from place `from` on are 0.
 fn is_zero(words: &[u64], from: usize) -> bool
@@ -162,31 +162,38 @@ fn is_plan<'a>(
     is_halton(family, axes, bases, polynomials, directions)
 }
 
-// Whether the run is permitted, and no more points are taken than it has.
-fn is_permitted(start: u64, count: u64, taken: u64) -> bool
-    ensures { λ r. ⌜ r ≡ permitted (runOf start count) taken ⌝ }
+// Whether an opening takes the first `axes` starts, zeros follow, and no more points are taken than there are.
+fn is_run(family: u64, axes: usize, starts: &[u64], count: u64, taken: u64) -> bool
+    requires { ⌜ axes ≤ length (now starts) ⌝ }
+    ensures { λ r. ⌜ (r ≡ true) ↔ FitRun family axes (now (starts .entry)) count taken ⌝ }
 {
-    if !points::in_range(start, count) {
+    if !points::all_in_range(&starts[..axes], count) {
+        return false;
+    }
+    if !points::has_starts(family, axes, &starts[..axes]) {
+        return false;
+    }
+    if !is_zero(starts, axes) {
         return false;
     }
     taken <= count
 }
 
-// Whether the words of `x` are the point of index `n`.
+// Whether the words of `x` are the point of an index for each axis.
 fn is_point<'a>(
     family: u64,
     axes: usize,
     bases: &'a [u64],
     directions: &'a [u64],
     x: &[u64],
-    n: u64,
+    ns: &[u64],
 ) -> bool
-    requires { ⌜ Arrays family axes (now bases) (now directions) × (length (now x) ≡ 6) × (n < 2 ^ 32) ⌝ }
-    ensures { λ r. ⌜ (r ≡ true) ↔ FitPoint family axes (now (bases .entry)) (now (directions .entry)) (now (x .entry)) n ⌝ }
+    requires { ⌜ Arrays family axes (now bases) (now directions) × (length (now x) ≡ 6) × Within (now ns) 1 ⌝ }
+    ensures { λ r. ⌜ (r ≡ true) ↔ FitPoint family axes (now (bases .entry)) (now (directions .entry)) (now (x .entry)) (ofAxis (now (ns .entry))) ⌝ }
 {
     let mut axis = 0;
     while axis < axes {
-        let y = points::numerator(family, bases, directions, n, axis);
+        let y = points::numerator(family, bases, directions, ns[axis], axis);
         if x[axis] != y {
             return false;
         }
@@ -202,15 +209,16 @@ fn is_next<'a>(
     bases: &'a [u64],
     directions: &'a [u64],
     x: &'a [u64],
-    start: u64,
+    starts: &[u64],
     count: u64,
     taken: u64,
 ) -> bool
-    requires { ⌜ Arrays family axes (now bases) (now directions) × (length (now x) ≡ 6) × (start + count ≤ 2 ^ 32) ⌝ }
-    ensures { λ r. ⌜ (r ≡ true) ↔ FitNext family axes (now (bases .entry)) (now (directions .entry)) (now (x .entry)) (runOf start count) taken ⌝ }
+    requires { ⌜ Arrays family axes (now bases) (now directions) × (length (now x) ≡ 6) × Within (now starts) count ⌝ }
+    ensures { λ r. ⌜ (r ≡ true) ↔ FitNext family axes (now (bases .entry)) (now (directions .entry)) (now (x .entry)) (runOf (now (starts .entry)) count) taken ⌝ }
 {
     if taken < count {
-        return is_point(family, axes, bases, directions, x, start + taken);
+        let ns = points::indexes(starts, taken);
+        return is_point(family, axes, bases, directions, x, &ns);
     }
     is_zero(x, 0)
 }
@@ -223,21 +231,21 @@ pub fn is_genuine<'a>(
     bases: &'a [u64; 6],
     polynomials: &'a [u64; 6],
     directions: &'a [u64; 192],
-    start: u64,
+    starts: &'a [u64; 6],
     count: u64,
     taken: u64,
     numerators: &'a [u64; 6],
 ) -> bool
-    requires { ⌜ Sized (stateOf family axes (now bases) (now polynomials) (now directions) start count taken (now numerators)) ⌝ }
-    ensures { λ r. ⌜ r ≡ genuine (stateOf family axes (now (bases .entry)) (now (polynomials .entry)) (now (directions .entry)) start count taken (now (numerators .entry))) ⌝ }
+    requires { ⌜ Sized (stateOf family axes (now bases) (now polynomials) (now directions) (now starts) count taken (now numerators)) ⌝ }
+    ensures { λ r. ⌜ r ≡ genuine (stateOf family axes (now (bases .entry)) (now (polynomials .entry)) (now (directions .entry)) (now (starts .entry)) count taken (now (numerators .entry))) ⌝ }
 {
-    if !is_permitted(start, count, taken) {
-        return false;
-    }
     if axes < 1 {
         return false;
     }
     if 6 < axes {
+        return false;
+    }
+    if !is_run(family, axes, starts, count, taken) {
         return false;
     }
     if !is_plan(family, axes, bases, polynomials, directions) {
@@ -249,7 +257,7 @@ pub fn is_genuine<'a>(
         bases,
         directions,
         numerators,
-        start,
+        starts,
         count,
         taken,
     )
