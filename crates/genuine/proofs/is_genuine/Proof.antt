@@ -3,7 +3,6 @@ use native.Mathlib.Omega.{arith}
 use borrow.Author.Needs.{needs}
 use borrow.Author.Tests.{not-true, not-false}
 use denote.Ref.{now}
-use Rattle.plan.specs.Plan.{OneToSix}
 use Rattle.state.specs.State.{stateOf}
 use Rattle.state.specs.declared.Sampler.{Sampler}
 use Rattle.fitting.specs.Fits.{FitPlan, FitRun}
@@ -58,11 +57,10 @@ returns-4 c =
 is-next-requires : tie.Need-is-next-requires
 is-next-requires c κs =
     let h = c .before .before .before .before in
-    let k = start (few (ranged h)) .pre in
-    let many : OneToSix (start (few (ranged h)) .args .axes) = (omega arith, omega arith) in (
-      fit-arrays _ _ _ _ _ many (k .bases) (k .polynomials) (k .directions) (held h),
+    let k = start (few (ranged h)) .pre in (
+      fit-arrays _ _ _ _ _ (omega arith, omega arith) (k .bases) (k .polynomials) (k .directions) (held h),
       k .numerators,
-      fit-within _ _ _ _ _ many (k .bases) (k .polynomials) (k .directions) (k .starts) (held h) (run (ranged h)),
+      fit-within _ _ _ _ _ (omega arith, omega arith) (k .bases) (k .polynomials) (k .directions) (k .starts) (held h) (run (ranged h)),
     )
 
 returns-5 : tie.Need-returns-5
