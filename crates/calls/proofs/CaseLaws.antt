@@ -15,12 +15,12 @@ use Rattle.plan.proofs.AnswerLaws.{read-accepted}
 use Rattle.plan.specs.Order.{Condition, firstDue, unlessDue}
 use Rattle.plan.proofs.OrderLaws.{none-due}
 use Rattle.points.specs.Point.{pointOf, slotOf}
-use Rattle.points.specs.Run.{Run, runOf, inRange, runPoint, runPoints}
+use Rattle.points.specs.Run.{Run, oneStart, inRange, hasStarts, runPoint, runPoints}
 use Rattle.writer.specs.Parts.{noRoom, Written}
 use Rattle.writer.specs.declared.PlanWritten.{PlanWritten}
 use Rattle.state.specs.State.{made, blank, planIn, runIn, genuine}
 use Rattle.state.specs.declared.Sampler.{Sampler}
-use Rattle.calls.specs.Calls.{moved, blocked, slotted, spent, runOrder, readState, readSpec, writeSpec, writeBuf, openSpec, jumpSpec, jumpBuf, runRefusals, stepSpec, stepBuf, blockSize, blockSpec, blockBuf, rowsRefusals, rowsSize, rowsSpec, secondSpec, isFromOne, hasSlots, slotSpec}
+use Rattle.calls.specs.Calls.{moved, blocked, slotted, splitStart, spent, runOrder, readState, readSpec, writeSpec, writeBuf, openSpec, jumpSpec, jumpBuf, runRefusals, stepSpec, stepBuf, blockSize, blockSpec, blockBuf, rowsRefusals, rowsSize, rowsSpec, secondSpec, isFromOne, hasSlots, slotSpec}
 
 -- ---- the test that every call makes first, negated in the code
 
@@ -42,7 +42,7 @@ module _ (bytes : List ℕ) (a : PlanRead) (e : a ≡ answerOf (readPlan bytes))
       go (accepted (halton family bases)) h = absurd (f (ap (λ (x : PlanRead). x .code) (e ∙ ap answerOf h)))
       go (accepted (sobol axes)) h = absurd (f (ap (λ (x : PlanRead). x .code) (e ∙ ap answerOf h)))
 
-  pub read-done : a .code ≡ 0 → AllBelow 256 bytes → (readSpec bytes ≡ moved 0 (made (planAnswered a) (runOf 0 0) 0)) × Accepted a
+  pub read-done : a .code ≡ 0 → AllBelow 256 bytes → (readSpec bytes ≡ moved 0 (made (planAnswered a) (oneStart (planAnswered a) 0 0) 0)) × Accepted a
   unfolding readSpec readState
   read-done z below =
       let w = read-accepted bytes below a e z in
@@ -94,9 +94,26 @@ module _ (s : Sampler) (r : Run) where
     unfolding openSpec firstDue unlessDue
     open-out h = rw (g, h) refl
 
-    pub open-done : inRange r ≡ true → openSpec s r ≡ moved 0 (made (planIn s) r 0)
-    unfolding openSpec firstDue unlessDue
-    open-done h = rw (g, h) refl
+    module _ (h : inRange r ≡ true) where
+      pub open-split : hasStarts (s .family) (s .axes) (r .starts) ≡ false → openSpec s r ≡ moved 17 s
+      unfolding openSpec firstDue unlessDue
+      open-split k = rw (g, h, k) refl
+
+      pub open-done : hasStarts (s .family) (s .axes) (r .starts) ≡ true → openSpec s r ≡ moved 0 (made (planIn s) r 0)
+      unfolding openSpec firstDue unlessDue
+      open-done k = rw (g, h, k) refl
+
+  -- where it is accepted, each test passes
+  pub open-accepted : openSpec s r .code ≡ 0
+      → (genuine s ≡ true) × (inRange r ≡ true) × (hasStarts (s .family) (s .axes) (r .starts) ≡ true)
+  unfolding openSpec
+  open-accepted z =
+      let a = none-due 14 (not (genuine s)) _ z in
+      let b = none-due 10 (not (inRange r)) _ (a .1) in (
+        not-false (genuine s) (a .0),
+        not-false (inRange r) (b .0),
+        not-false (hasStarts (s .family) (s .axes) (r .starts)) (none-due 16 (splitStart s r) [] (b .1) .0),
+      )
 
 -- ---- jump
 

@@ -1,5 +1,5 @@
 -- The history by calls: a state is genuine exactly where accepted calls leave it, and a call answers 15 exactly where none do. Assumes nothing.
-use mathlib.Core.Path.{_≡_, refl, sym, ap, _∙_, subst}
+use mathlib.Core.Path.{_≡_, refl, sym, ap, ap₂, _∙_, subst}
 use mathlib.Core.Bool.{Bool, true, false, not, true≢false}
 use mathlib.Core.Logic.{_↔_}
 use mathlib.Core.List.{List, [], _∷_}
@@ -18,17 +18,19 @@ use Rattle.plan.proofs.AcceptLaws.{accepted-iff, read-spelled}
 use Rattle.plan.proofs.RefusalLaws.{refused-range}
 use Rattle.plan.proofs.OrderLaws.{none-given, none-due, other-due, first-iff}
 use Rattle.points.specs.Point.{axisCount}
-use Rattle.points.specs.Run.{Run, runOf, inRange}
-use Rattle.points.proofs.RunLaws.{is-range}
+use Rattle.points.specs.Run.{Run, oneStart, inRange, hasStarts, Opens}
+use Rattle.points.proofs.PointLaws.{axis-count}
+use Rattle.points.proofs.RunLaws.{opens-long, one-opens}
 use Rattle.state.specs.State.{made, planIn, runIn, genuine}
 use Rattle.state.specs.History.{Reachable}
 use Rattle.state.specs.declared.Sampler.{Sampler}
 use Rattle.state.proofs.GenuineLaws.{Permitted, genuine-is, made-genuine}
-use Rattle.state.proofs.PlanLaws.{plan-in-made}
+use Rattle.state.proofs.PlanLaws.{plan-in-made, run-in-made}
 use Rattle.state.proofs.HistoryLaws.{genuine-iff}
 use Rattle.calls.specs.Calls.{moved, readState, readSpec, foreign, runOrder, writeSpec, openSpec, jumpSpec, runRefusals, stepSpec, blockSize, blockSpec, secondSpec, slotSpec}
 use Rattle.calls.specs.History.{After, read, opened, stepped, filled, lastRun, AfterCalls}
-use Rattle.calls.proofs.CaseLaws.{open-done, run-cleared, step-done, block-done}
+use Rattle.calls.proofs.CaseLaws.{open-accepted, open-done, run-cleared, step-done, block-done}
+use Rattle.calls.proofs.PointLaws.{known-opens}
 use Rattle.calls.proofs.RunLaws.{step-at, open-at}
 
 -- ---- accepted calls leave the plan that was read, and a permitted run
@@ -37,14 +39,15 @@ pub record Leaves (bytes : List ℕ) (s : Sampler) : Type 0 where
   pub plan : Plan
   pub valid : Valid plan
   pub spelled : bytes ≡ spell plan
-  pub run : Permitted (runIn s) (s .taken)
+  pub run : Permitted plan (runIn s) (s .taken)
   pub is : s ≡ made plan (runIn s) (s .taken)
 
-pub of-made : {bytes : List ℕ} {s : Sampler} (p : Plan) → Valid p → bytes ≡ spell p → (r : Run) (taken : ℕ) → Permitted r taken → s ≡ made p r taken
+pub of-made : {bytes : List ℕ} {s : Sampler} (p : Plan) → Valid p → bytes ≡ spell p → (r : Run) (taken : ℕ) → Permitted p r taken → s ≡ made p r taken
     → Leaves bytes s
-unfolding made
-of-made p v e r taken h is =
-    subst (Leaves _) (sym is) (record { plan = p; valid = v; spelled = e; run = h; is = refl })
+of-made {bytes} {s} p v e r taken h is =
+    let run : runIn s ≡ r = ap runIn is ∙ run-in-made p r (opens-long (h .opens)) taken in
+    let many : s .taken ≡ taken = ap (λ (t : Sampler). t .taken) is ∙ unfold made in refl in
+    record { plan = p; valid = v; spelled = e; run = rw (run, many) h; is = is ∙ ap₂ (made p) (sym run) (sym many) }
 
 module _ {bytes : List ℕ} {s : Sampler} (l : Leaves bytes s) where
   pub leaves-genuine : genuine s ≡ true
@@ -54,23 +57,28 @@ module _ {bytes : List ℕ} {s : Sampler} (l : Leaves bytes s) where
   leaves-plan = ap planIn (l .is) ∙ plan-in-made (l .plan) (l .valid) (runIn s) (s .taken)
 
   -- a state with the same plan
-  next : {t : Sampler} (r : Run) (taken : ℕ) → Permitted r taken → t ≡ made (planIn s) r taken → Leaves bytes t
+  next : {t : Sampler} (r : Run) (taken : ℕ) → Permitted (l .plan) r taken → t ≡ made (planIn s) r taken → Leaves bytes t
   next r taken h e = of-made (l .plan) (l .valid) (l .spelled) r taken h (e ∙ ap (λ (p : Plan). made p r taken) leaves-plan)
 
+  -- with the same run it has the same
+  held : (taken : ℕ) → runIn (made (planIn s) (runIn s) taken) ≡ runIn s
+  held taken = run-in-made (planIn s) (runIn s) (opens-long (l .run .opens) ∙ ap axisCount (sym leaves-plan)) taken
+
   -- an accepted opening
-  pub open-accepted : (r : Run) → openSpec s r .code ≡ 0 → (inRange r ≡ true) × (openSpec s r .state ≡ made (l .plan) r 0)
-  unfolding openSpec
-  open-accepted r z =
-      let range = not-false (inRange r) (none-due 10 (not (inRange r)) [] (none-due 14 (foreign s) _ z .1) .0) in
-      (range, ap (λ (a : _). a .state) (open-done s r leaves-genuine range) ∙ ap (λ (p : Plan). made p r 0) leaves-plan)
+  pub open-leaves : (r : Run) → openSpec s r .code ≡ 0 → Opens (l .plan) r × (openSpec s r .state ≡ made (l .plan) r 0)
+  open-leaves r z =
+      let a = open-accepted s r z in (
+        subst (λ (p : Plan). Opens p r) leaves-plan (known-opens s leaves-genuine r (a .1) (a .2)),
+        ap (λ (a : _). a .state) (open-done s r leaves-genuine (a .1) (a .2)) ∙ ap (λ (p : Plan). made p r 0) leaves-plan,
+      )
 
 -- an accepted reading
 read-accepted : (bytes : List ℕ) → AllBelow 256 bytes → readSpec bytes .code ≡ 0
-    → (p : Plan) × Valid p × (bytes ≡ spell p) × (readSpec bytes .state ≡ made p (runOf 0 0) 0)
+    → (p : Plan) × Valid p × (bytes ≡ spell p) × (readSpec bytes .state ≡ made p (oneStart p 0 0) 0)
 unfolding readSpec readState
 read-accepted bytes below z = go (readPlan bytes) refl
   where
-    go : (r : Reading) → readPlan bytes ≡ r → (p : Plan) × Valid p × (bytes ≡ spell p) × (readState (readPlan bytes) .state ≡ made p (runOf 0 0) 0)
+    go : (r : Reading) → readPlan bytes ≡ r → (p : Plan) × Valid p × (bytes ≡ spell p) × (readState (readPlan bytes) .state ≡ made p (oneStart p 0 0) 0)
     go (refused n) e = absurd (omega (arith, rw e at z, refused-range bytes n e))
     go (accepted p) e = let a = accepted-iff bytes below p .0 e in (p, a .0, a .1, rw e refl)
 
@@ -84,39 +92,39 @@ read-never-two bytes z = go (readPlan bytes) refl
     go (accepted p) e = omega (arith, rw e at z)
 
 -- the run that a reading leaves
-pub none-opened : Permitted (runOf 0 0) 0
-none-opened = record { in-range = is-range (runOf 0 0) (omega arith); not-past = omega arith }
+pub none-opened : (p : Plan) → Valid p → Permitted p (oneStart p 0 0) 0
+none-opened p v = record { opens = one-opens p 0 0 (axis-count p v .0) (omega arith); not-past = omega arith }
 
 pub after-leaves : {bytes : List ℕ} {s : Sampler} → After bytes s → Leaves bytes s
 unfolding openSpec stepSpec blockSpec
 after-leaves (read below z) =
-    let a = read-accepted _ below z in of-made (a .0) (a .1) (a .2) (runOf 0 0) 0 none-opened (a .3)
+    let a = read-accepted _ below z in of-made (a .0) (a .1) (a .2) (oneStart (a .0) 0 0) 0 (none-opened (a .0) (a .1)) (a .3)
 after-leaves (opened {s} h r z) =
     let l = after-leaves h in
-    let o = open-accepted l r z in
-    of-made (l .plan) (l .valid) (l .spelled) r 0 (record { in-range = o .0; not-past = omega arith }) (o .1)
+    let o = open-leaves l r z in
+    of-made (l .plan) (l .valid) (l .spelled) r 0 (record { opens = o .0; not-past = omega arith }) (o .1)
 after-leaves (stepped {s} h buf z) =
     let l = after-leaves h in
     let left = run-cleared (genuine s) s buf (s .axes) z .1 in
-    next l (runIn s) (s .taken + 1) (record { in-range = l .run .in-range; not-past = omega arith }) (ap (λ (a : _). a .state) (step-done s buf z .0))
+    next l (runIn s) (s .taken + 1) (record { opens = l .run .opens; not-past = omega arith }) (ap (λ (a : _). a .state) (step-done s buf z .0))
 after-leaves (filled {s} h buf z) =
     let l = after-leaves h in
     let left = run-cleared (genuine s) s buf (s .axes) z .1 in
     let few = min-le-left (s .count - s .taken) (length buf / s .axes) in
-    next l (runIn s) (s .taken + blockSize s buf) (record { in-range = l .run .in-range; not-past = omega arith }) (ap (λ (a : _). a .state) (block-done s buf z .0))
+    next l (runIn s) (s .taken + blockSize s buf) (record { opens = l .run .opens; not-past = omega arith }) (ap (λ (a : _). a .state) (block-done s buf z .0))
 
 -- ---- and every plan and permitted run is left by some: read, open, and step
 
-module _ (p : Plan) (v : Valid p) (r : Run) (fits : inRange r ≡ true) where
-  after-reading : After (spell p) (made p (runOf 0 0) 0)
+module _ (p : Plan) (v : Valid p) (r : Run) (fits : Opens p r) where
+  after-reading : After (spell p) (made p (oneStart p 0 0) 0)
   unfolding readSpec readState
   after-reading =
-      let e : readSpec (spell p) ≡ moved 0 (made p (runOf 0 0) 0) = rw (read-spelled p v) refl in
+      let e : readSpec (spell p) ≡ moved 0 (made p (oneStart p 0 0) 0) = rw (read-spelled p v) refl in
       subst (After (spell p)) (ap (λ (a : _). a .state) e) (read (spell-below p) (ap (λ (a : _). a .code) e))
 
   after-opening : After (spell p) (made p r 0)
   after-opening =
-      let e = open-at p v (runOf 0 0) (none-opened .in-range) 0 (omega arith) r fits in
+      let e = open-at p v (oneStart p 0 0) (none-opened p v .opens) 0 (omega arith) r fits in
       subst (After (spell p)) (ap (λ (a : _). a .state) e) (opened after-reading r (ap (λ (a : _). a .code) e))
 
   pub after-steps : (taken : ℕ) → taken ≤ r .count → After (spell p) (made p r taken)
@@ -132,7 +140,7 @@ after-iff s = (
   λ h. leaves-genuine (after-leaves (h .1)),
   λ e.
       let g = genuine-is s e in
-      (spell (planIn s), subst (After (spell (planIn s))) (sym (g .is)) (after-steps (planIn s) (g .valid) (runIn s) (g .run .in-range) (s .taken) (g .run .not-past))),
+      (spell (planIn s), subst (After (spell (planIn s))) (sym (g .is)) (after-steps (planIn s) (g .valid) (runIn s) (g .run .opens) (s .taken) (g .run .not-past))),
 )
 
 pub after-reachable : (s : Sampler) → AfterCalls s ↔ Reachable s
@@ -141,11 +149,17 @@ after-reachable s = (λ h. genuine-iff s .0 (after-iff s .0 h), λ r. after-iff 
 -- ---- the run that the last accepted opening was given
 
 pub last-run : {bytes : List ℕ} {s : Sampler} (h : After bytes s) → runIn s ≡ lastRun h
-unfolding lastRun openSpec stepSpec blockSpec made
-last-run (read below z) = ap runIn (read-accepted _ below z .3)
-last-run (opened {s} h r z) = ap runIn (open-accepted (after-leaves h) r z .1)
-last-run (stepped {s} h buf z) = ap (λ (a : _). runIn (a .state)) (step-done s buf z .0) ∙ last-run h
-last-run (filled {s} h buf z) = ap (λ (a : _). runIn (a .state)) (block-done s buf z .0) ∙ last-run h
+unfolding lastRun openSpec stepSpec blockSpec
+last-run {bytes} (read below z) =
+    let a = read-accepted bytes below z in
+    let p = a .0 in
+    ap runIn (a .3) ∙ run-in-made p (oneStart p 0 0) (opens-long (none-opened p (a .1) .opens)) 0
+    ∙ ap (λ (q : Plan). oneStart q 0 0) (sym (ap planIn (a .3) ∙ plan-in-made p (a .1) (oneStart p 0 0) 0))
+last-run (opened {s} h r z) =
+    let l = after-leaves h in
+    let o = open-leaves l r z in ap runIn (o .1) ∙ run-in-made (l .plan) r (opens-long (o .0)) 0
+last-run (stepped {s} h buf z) = ap runIn (ap (λ (a : _). a .state) (step-done s buf z .0)) ∙ held (after-leaves h) (s .taken + 1) ∙ last-run h
+last-run (filled {s} h buf z) = ap runIn (ap (λ (a : _). a .state) (block-done s buf z .0)) ∙ held (after-leaves h) (s .taken + blockSize s buf) ∙ last-run h
 
 -- ---- number 15
 
@@ -182,7 +196,7 @@ module _ (s : Sampler) where
 
   pub open-foreign-iff : (r : Run) → (openSpec s r .code ≡ 15) ↔ (AfterCalls s → ⊥)
   unfolding openSpec
-  open-foreign-iff r = foreign-iff s _ (other-due 11 _ [] 15 (λ e. omega arith) none-15)
+  open-foreign-iff r = foreign-iff s _ (other-due 11 _ _ 15 (λ e. omega arith) (other-due 17 _ [] 15 (λ e. omega arith) none-15))
 
   pub jump-foreign-iff : (n : ℕ) (buf : List ℕ) → (jumpSpec s n buf .code ≡ 15) ↔ (AfterCalls s → ⊥)
   unfolding jumpSpec

@@ -5,6 +5,7 @@ pub mod RowLaws
 pub mod ExchangeLaws
 pub mod RunLaws
 pub mod HistoryLaws
+pub mod OneStartLaws
 pub mod ServerLaws
 pub mod ServingLaws
 pub mod RoundTrip

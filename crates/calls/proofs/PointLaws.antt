@@ -1,25 +1,26 @@
 -- What putting a point at the front of a buffer leaves, for the point that a genuine state holds and for any point of its plan. Assumes nothing.
-use mathlib.Core.Path.{_≡_, refl, sym, ap, _∙_}
+use mathlib.Core.Path.{_≡_, refl, sym, ap, ap₂, _∙_}
 use mathlib.Core.Bool.{true, cond}
 use mathlib.Core.List.{List, _++_}
-use Prim.Native.Nat.{ℕ, _+_, _^_, _≤_, _<_}
+use Prim.Native.Nat.{ℕ, _^_, _≤_, _<_}
 use native.Mathlib.Omega.{arith}
 use lib.Dec.{ltb}
 use lib.ListN.{length, take, drop, replicate}
-use Rattle.numbers.proofs.ListedLaws.{padded-take}
+use Rattle.numbers.specs.Listed.{listed, padded}
+use Rattle.numbers.proofs.ListedLaws.{listed-length, padded-take}
 use Rattle.bits.specs.Stream.{overwrite}
 use Rattle.bits.proofs.OverwriteLaws.{over-start}
 use Rattle.plan.specs.Plan.{Plan, Valid}
 use Rattle.points.specs.Point.{axisCount, numeratorOf, denominatorOf, pointOf}
-use Rattle.points.specs.Run.{Run, runPoint}
-use Rattle.points.proofs.RunLaws.{run-point}
-use Rattle.points.specs.Arrays.{numeratorAt, denominatorAt, pointAt, Arrays}
+use Rattle.points.specs.Run.{Run, runOf, indexAt, inRange, hasStarts, Opens, runPoint}
+use Rattle.points.proofs.RunLaws.{run-point-length}
+use Rattle.points.specs.Arrays.{numeratorAt, denominatorAt, pointAt, Arrays, Within}
 use Rattle.points.proofs.PointLaws.{axis-count, denominator-of-lt, numerator-of-lt, point-of-length}
 use Rattle.points.proofs.ArrayLaws.{numerator-at-plan, denominator-at-plan}
 use Rattle.state.specs.State.{nextPoint, planIn, runIn, genuine}
 use Rattle.state.specs.declared.Sampler.{Sampler}
-use Rattle.state.proofs.GenuineLaws.{Genuine, genuine-is, genuine-range}
-use Rattle.state.proofs.StateLaws.{Holds, genuine-holds, genuine-arrays, genuine-point, genuine-current, genuine-next-of}
+use Rattle.state.proofs.GenuineLaws.{Genuine, genuine-is}
+use Rattle.state.proofs.StateLaws.{Holds, holds-step, holds-next, genuine-holds, genuine-arrays, genuine-point, genuine-starts, genuine-within, genuine-current}
 
 module _ {p : Plan} {family axes : ℕ} {bases vs : List ℕ} (h : Holds p family axes bases vs) (v : Valid p) where
   holds-numerator : (n i : ℕ) → i < axes → numeratorAt family bases vs n i ≡ numeratorOf p n i
@@ -40,37 +41,60 @@ module _ (s : Sampler) (g : genuine s ≡ true) where
   axes-few = let h = axis-count (planIn s) (is .valid) in (omega (arith, axes-are, h .0), omega (arith, axes-are, h .1))
 
   -- the front of the words that hold a point is the point
-  pub point-front : (n : ℕ) → take (s .axes) (pointAt (s .family) (s .axes) (s .bases) (s .directions) n) ≡ pointOf (planIn s) n
+  pub point-front : (n : ℕ) → take (s .axes) (pointAt (s .family) (s .axes) (s .bases) (s .directions) (λ i. n)) ≡ pointOf (planIn s) n
   point-front n =
       ap (take (s .axes)) (genuine-point is n) ∙ padded-take 6 (pointOf (planIn s) n) (s .axes) (point-of-length (planIn s) n ∙ sym axes-are)
 
-  -- the front of such words, put at the front of a buffer: the point of any index, and that of the run's step t
-  pub point-put : (buf new x : List ℕ) (n : ℕ) → x ≡ pointAt (s .family) (s .axes) (s .bases) (s .directions) n
+  -- put at the front of a buffer: the point of any index, and that of the run's step t
+  pub point-put : (buf new x : List ℕ) (n : ℕ) → x ≡ pointAt (s .family) (s .axes) (s .bases) (s .directions) (λ i. n)
       → new ≡ overwrite buf 0 (take (s .axes) x) → new ≡ pointOf (planIn s) n ++ drop (s .axes) buf
   point-put buf new x n e put =
       put ∙ rw (e, point-front n) (over-start buf (pointOf (planIn s) n) (s .axes) (point-of-length (planIn s) n ∙ sym axes-are))
 
-  pub step-put : (buf new x : List ℕ) (t : ℕ) → x ≡ pointAt (s .family) (s .axes) (s .bases) (s .directions) (s .start + t)
-      → new ≡ overwrite buf 0 (take (s .axes) x) → new ≡ runPoint (planIn s) (runIn s) t ++ drop (s .axes) buf
-  step-put buf new x t e put = point-put buf new x (s .start + t) e put ∙ rw (run-point (planIn s) (runIn s) t) refl
+  pub step-put : (buf new x : List ℕ) (t : ℕ) → x ≡ padded 6 (runPoint (planIn s) (runIn s) t) → new ≡ overwrite buf 0 (take (s .axes) x)
+      → new ≡ runPoint (planIn s) (runIn s) t ++ drop (s .axes) buf
+  step-put buf new x t e put =
+      let point = runPoint (planIn s) (runIn s) t in
+      let long : length point ≡ s .axes = run-point-length (planIn s) (runIn s) t ∙ sym axes-are in
+      put ∙ rw (e, padded-take 6 point (s .axes) long) (over-start buf point (s .axes) long)
 
   -- and how long it is
-  pub front-long : (x : List ℕ) (n : ℕ) → x ≡ pointAt (s .family) (s .axes) (s .bases) (s .directions) n → length (take (s .axes) x) ≡ s .axes
-  front-long x n e = ap (λ (l : List ℕ). length (take (s .axes) l)) e ∙ ap length (point-front n) ∙ point-of-length (planIn s) n ∙ sym axes-are
+  pub front-long : (x : List ℕ) (n : ℕ → ℕ) → x ≡ pointAt (s .family) (s .axes) (s .bases) (s .directions) n → length (take (s .axes) x) ≡ s .axes
+  unfolding pointAt
+  front-long x n e =
+      let word : ℕ → ℕ = λ i. numeratorAt (s .family) (s .bases) (s .directions) (n i) i in
+      rw (e, padded-take 6 (listed word (s .axes)) (s .axes) (listed-length word (s .axes))) (listed-length word (s .axes))
 
   pub known-arrays : Arrays (s .family) (s .axes) (s .bases) (s .directions)
   known-arrays = genuine-arrays is
 
-  pub known-run : (s .start + s .count ≤ 2 ^ 32) × (s .taken ≤ s .count)
-  known-run = (genuine-range is, is .run .not-past)
+  pub known-starts : s .starts ≡ padded 6 (runIn s .starts)
+  known-starts = genuine-starts is
 
-  pub known-next : s .taken < s .count → s .numerators ≡ pointAt (s .family) (s .axes) (s .bases) (s .directions) (s .start + s .taken)
+  pub known-run : Within (s .starts) (s .count) × (s .taken ≤ s .count)
+  known-run = (genuine-within is, is .run .not-past)
+
+  pub known-next : s .taken < s .count
+      → s .numerators ≡ pointAt (s .family) (s .axes) (s .bases) (s .directions) (λ i. indexAt (runOf (s .starts) (s .count)) i (s .taken))
   known-next h = genuine-current is h
 
-  -- the next point of any run, by the state's arrays
-  pub next-of : (r : Run) (taken : ℕ)
-      → cond (ltb taken (r .count)) (pointAt (s .family) (s .axes) (s .bases) (s .directions) (r .start + taken)) (replicate 6 0) ≡ nextPoint (planIn s) r taken
-  next-of = genuine-next-of is
+  -- the same as the run's point
+  pub known-point : s .taken < s .count → s .numerators ≡ padded 6 (runPoint (planIn s) (runIn s) (s .taken))
+  known-point h = known-next h ∙ holds-step (genuine-holds is) (is .valid) (runIn s) known-starts (s .taken)
+
+  -- the next point of any run, by the state's arrays and the run's starts with zeros after them
+  pub next-of : (r : Run) {starts : List ℕ} → starts ≡ padded 6 (r .starts) → (taken : ℕ)
+      → cond (ltb taken (r .count)) (pointAt (s .family) (s .axes) (s .bases) (s .directions) (λ i. indexAt (runOf starts (r .count)) i taken)) (replicate 6 0)
+      ≡ nextPoint (planIn s) r taken
+  next-of r e taken = holds-next (genuine-holds is) (is .valid) r e taken
+
+  -- the opening of a run that its plan takes
+  pub known-opens : (r : Run) → inRange r ≡ true → hasStarts (s .family) (s .axes) (r .starts) ≡ true → Opens (planIn s) r
+  known-opens r h k = record { in-range = h; has-starts = rw (← genuine-holds is .family-is, ← axes-are) k }
+
+  pub known-has : {r : Run} → Opens (planIn s) r → hasStarts (s .family) (s .axes) (r .starts) ≡ true
+  known-has {r} o =
+      ap₂ (λ (family axes : ℕ). hasStarts family axes (r .starts)) (genuine-holds is .family-is) axes-are ∙ o .has-starts
 
   -- ---- one axis
 

@@ -7,7 +7,7 @@ use lib.ListN.{length, take, drop}
 use lib.Seq.{take-at}
 use Rattle.plan.specs.Plan.{spell}
 use Rattle.plan.proofs.AcceptLaws.{read-spelled}
-use Rattle.points.specs.Run.{runOf}
+use Rattle.points.specs.Run.{oneStart}
 use Rattle.state.specs.State.{made, planIn}
 use Rattle.state.specs.declared.Sampler.{Sampler}
 use Rattle.calls.specs.Calls.{moved, readState, readSpec, writeSpec, writeBuf}
@@ -33,7 +33,7 @@ module _ {bytes : List ℕ} {s : Sampler} (h : After bytes s) (buf : List ℕ) w
   write-refused short = write-no-room s buf (leaves-genuine leaves) (rw same at short)
 
   -- and what is written is read as the same plan
-  pub read-write : length bytes ≤ length buf → readSpec (take (writeSpec s buf .len) (writeBuf s buf)) ≡ moved 0 (made (planIn s) (runOf 0 0) 0)
+  pub read-write : length bytes ≤ length buf → readSpec (take (writeSpec s buf .len) (writeBuf s buf)) ≡ moved 0 (made (planIn s) (oneStart (planIn s) 0 0) 0)
   unfolding readSpec readState
   read-write room =
       let w = write-read room in

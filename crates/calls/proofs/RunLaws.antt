@@ -1,29 +1,34 @@
 -- What calls come to on the states that a plan, a permitted run and a number of points taken make: steps serve the run's points and then none, a
--- block is that many steps, a jump inside the run gives the step's point. Assumes nothing.
+-- block is that many steps, a jump to the index that an axis reads gives the step's numerator there. Assumes nothing.
 use mathlib.Core.Path.{_≡_, refl, sym, ap, ap₂, _∙_}
 use mathlib.Core.Bool.{true}
 use mathlib.Core.List.{List, _++_}
 use Prim.Native.Nat.{ℕ, zero, suc, _+_, _-_, _*_, _/_, _^_, _≤_, _<_, min}
 use native.Mathlib.Nat.{min-le-left}
 use native.Mathlib.Omega.{arith}
-use lib.ListN.{length, take, drop}
+use lib.ListN.{length, take, drop, getD, List·getD-append}
 use lib.Seq.{take-at}
-use Rattle.numbers.specs.Listed.{joined}
+use Rattle.numbers.specs.Listed.{listed, joined, padded}
+use Rattle.numbers.proofs.ListedLaws.{listed-length, listed-at, padded-take}
 use Rattle.plan.specs.Plan.{Plan, Valid}
 use Rattle.plan.specs.Order.{firstDue}
 use Rattle.points.specs.Point.{axisCount, numeratorOf, denominatorOf, pointOf, slotOf}
-use Rattle.points.specs.Run.{Run, inRange, runPoint, runPoints}
-use Rattle.points.proofs.RunLaws.{range-is, run-point, run-point-length}
+use Rattle.points.specs.Run.{Run, indexAt, Opens, runNumerator, runPoint, runPoints}
+use Rattle.points.proofs.RunLaws.{opens-long, opens-low, run-point-length}
 use Rattle.state.specs.State.{made, genuine}
 use Rattle.state.proofs.PlanLaws.{plan-in-made}
 use Rattle.state.proofs.GenuineLaws.{made-genuine}
 use Rattle.calls.specs.Calls.{moved, blocked, slotted, openSpec, jumpSpec, jumpBuf, runRefusals, stepSpec, stepBuf, blockSpec, blockBuf, secondSpec, hasSlots, slotSpec}
 use Rattle.calls.specs.Steps.{stepsPoints, stepsState}
-use Rattle.calls.proofs.CaseLaws.{open-done, jump-done, run-spent, run-clear, step-refused, step-done, block-refused, block-done, second-done, slot-done}
+use Rattle.calls.proofs.CaseLaws.{open-accepted, open-done, jump-done, run-spent, run-clear, step-refused, step-done, block-refused, block-done, second-done, slot-done}
 
-module _ (p : Plan) (v : Valid p) (r : Run) (fits : inRange r ≡ true) where
+module _ (p : Plan) (v : Valid p) (r : Run) (fits : Opens p r) where
   is-genuine : (taken : ℕ) → taken ≤ r .count → genuine (made p r taken) ≡ true
-  is-genuine taken h = made-genuine p v r taken (record { in-range = fits; not-past = h })
+  is-genuine taken h = made-genuine p v r taken (record { opens = fits; not-past = h })
+
+  -- the starts that the state holds are the run's
+  front : take (axisCount p) (padded 6 (r .starts)) ≡ r .starts
+  front = padded-take 6 (r .starts) (axisCount p) (opens-long fits)
 
   -- ---- one call
 
@@ -36,7 +41,7 @@ module _ (p : Plan) (v : Valid p) (r : Run) (fits : inRange r ≡ true) where
       pub step-at : (stepSpec (made p r taken) buf ≡ moved 0 (made p r (taken + 1)))
           × (stepBuf (made p r taken) buf ≡ runPoint p r taken ++ drop (axisCount p) buf)
       unfolding made
-      step-at = rw (plan-in-made p v r taken) at (step-done (made p r taken) buf clear)
+      step-at = rw (plan-in-made p v r taken, front) at (step-done (made p r taken) buf clear)
 
       pub step-point : take (axisCount p) (stepBuf (made p r taken) buf) ≡ runPoint p r taken
       step-point =
@@ -46,7 +51,7 @@ module _ (p : Plan) (v : Valid p) (r : Run) (fits : inRange r ≡ true) where
           (blockSpec (made p r taken) buf ≡ blocked 0 k (made p r (taken + k)))
           × (blockBuf (made p r taken) buf ≡ runPoints p r taken k ++ drop (k * axisCount p) buf)
       unfolding made
-      block-at = rw (plan-in-made p v r taken) at (block-done (made p r taken) buf clear)
+      block-at = rw (plan-in-made p v r taken, front) at (block-done (made p r taken) buf clear)
 
     module _ (e : taken ≡ r .count) where
       over : firstDue (runRefusals (made p r taken) buf) ≡ 12
@@ -68,10 +73,20 @@ module _ (p : Plan) (v : Valid p) (r : Run) (fits : inRange r ≡ true) where
     unfolding made
     jump-at n h l = rw (plan-in-made p v r taken) at (jump-done (made p r taken) n buf (is-genuine taken h) l room)
 
-    -- inside the run it gives the step's point
-    pub jump-inside : taken < r .count → jumpBuf (made p r taken) (r .start + taken) buf ≡ stepBuf (made p r taken) buf
-    jump-inside h =
-        jump-at (r .start + taken) (omega arith) (omega (arith, range-is r fits)) .1 ∙ rw (← run-point p r taken) (sym (step-at h .1))
+    -- to the index that an axis reads: the same on that axis
+    pub jump-axis : (i k : ℕ) → i < axisCount p → k < r .count → taken ≤ r .count
+        → (jumpSpec (made p r taken) (indexAt r i k) buf .code ≡ 0)
+        × (getD (jumpBuf (made p r taken) (indexAt r i k) buf) i 0 ≡ getD (runPoint p r k) i 0)
+    unfolding pointOf runPoint runNumerator
+    jump-axis i k l m h =
+        let n = indexAt r i k in
+        let a = jump-at n h (opens-low fits i k l m) in
+        let long = listed-length (numeratorOf p n) (axisCount p) in (
+          ap (λ (x : _). x .code) (a .0),
+          ap (λ (x : List ℕ). getD x i 0) (a .1)
+          ∙ List·getD-append (listed (numeratorOf p n) (axisCount p)) (drop (axisCount p) buf) 0 i (omega (arith, long))
+          ∙ listed-at (numeratorOf p n) (axisCount p) i l ∙ sym (listed-at (λ j. numeratorOf p (indexAt r j k) j) (axisCount p) i l),
+        )
 
   pub second-at : (taken : ℕ) → taken ≤ r .count → (n : ℕ) → n < 2 ^ 32
       → secondSpec (made p r taken) n ≡ record { code = 0; second = numeratorOf p n 0 * 86400 / denominatorOf p 0 }
@@ -85,8 +100,15 @@ module _ (p : Plan) (v : Valid p) (r : Run) (fits : inRange r ≡ true) where
       rw (plan-in-made p v r taken) at (slot-done (made p r taken) n axis slots (is-genuine taken h) l takes)
 
   -- an opening replaces the run
-  pub open-at : (taken : ℕ) → taken ≤ r .count → (next : Run) → inRange next ≡ true → openSpec (made p r taken) next ≡ moved 0 (made p next 0)
-  open-at taken h next l = rw (plan-in-made p v r taken) at (open-done (made p r taken) next (is-genuine taken h) l)
+  pub open-at : (taken : ℕ) → taken ≤ r .count → (next : Run) → Opens p next → openSpec (made p r taken) next ≡ moved 0 (made p next 0)
+  unfolding made
+  open-at taken h next o =
+      rw (plan-in-made p v r taken) at (open-done (made p r taken) next (is-genuine taken h) (o .in-range) (o .has-starts))
+
+  -- and is accepted only then
+  pub open-only : (taken : ℕ) (next : Run) → openSpec (made p r taken) next .code ≡ 0 → Opens p next
+  unfolding made
+  open-only taken next z = let a = open-accepted (made p r taken) next z in record { in-range = a .1; has-starts = a .2 }
 
   -- ---- steps in a row, each lent words of its own
 

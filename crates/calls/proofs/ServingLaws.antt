@@ -1,5 +1,5 @@
 -- Demand 2 by the calls' own answers: after an accepted reading and an accepted opening, any steps and blocks serve the points of the plan that was
--- read, from the start on, exactly as many as the run has, and then 12; and a jump gives the same points. Assumes nothing.
+-- read, each axis from its start on, exactly as many as the run has, and then 12; and jumps give the same numerators. Assumes nothing.
 use mathlib.Core.Path.{_≡_, refl, sym, ap, _∙_, subst}
 use mathlib.Core.Bool.{true}
 use mathlib.Core.Logic.{_↔_, _⊎_, ⊎-elim}
@@ -7,7 +7,7 @@ use mathlib.Core.List.{List, []}
 use Prim.Native.Nat.{ℕ, zero, suc, _+_, _-_, _*_, _/_, _≤_, _<_, min}
 use native.Mathlib.Nat.{add-zero, zero-mul, min-le-left}
 use native.Mathlib.Omega.{arith}
-use lib.ListN.{length, take, drop}
+use lib.ListN.{length, take, drop, getD}
 use lib.Seq.{take-at}
 use Rattle.bits.specs.Stream.{AllBelow}
 use Rattle.numbers.specs.Listed.{joined}
@@ -16,21 +16,21 @@ use Rattle.plan.specs.Plan.{Plan, Valid, spell}
 use Rattle.plan.specs.Reading.{readPlan}
 use Rattle.plan.specs.Order.{firstDue}
 use Rattle.plan.proofs.AcceptLaws.{read-spelled}
-use Rattle.points.specs.Point.{axisCount, pointOf}
-use Rattle.points.specs.Run.{Run, runOf, inRange, runPoint, runPoints}
-use Rattle.points.proofs.PointLaws.{axis-count, point-of-length}
-use Rattle.points.proofs.RunLaws.{range-is, run-point, run-point-length}
+use Rattle.points.specs.Point.{axisCount}
+use Rattle.points.specs.Run.{Run, oneStart, indexAt, Opens, runPoint, runPoints}
+use Rattle.points.proofs.PointLaws.{axis-count}
+use Rattle.points.proofs.RunLaws.{run-point-length}
 use Rattle.state.specs.State.{made, genuine}
 use Rattle.state.specs.declared.Sampler.{Sampler}
 use Rattle.calls.specs.Calls.{readState, readSpec, openSpec, runRefusals, jumpSpec, jumpBuf, stepSpec, stepBuf, blockSpec}
 use Rattle.calls.specs.History.{read, Request, step, block, lentTo, movedBy, writtenBy, runServer, stateAfter, pointsServed, AllRoom}
 use Rattle.calls.specs.Demand2.{ServesRun}
-use Rattle.calls.proofs.RunLaws.{clear, step-at, step-point, step-over, block-at, block-over, open-at, jump-at}
+use Rattle.calls.proofs.RunLaws.{clear, step-at, step-point, step-over, block-at, block-over, open-at, open-only, jump-axis}
 use Rattle.calls.proofs.CaseLaws.{run-cleared, step-refused, block-refused}
 use Rattle.calls.proofs.ServerLaws.{whole, Serves, ServesOne, all-serve}
-use Rattle.calls.proofs.HistoryLaws.{of-made, none-opened, after-leaves, open-accepted}
+use Rattle.calls.proofs.HistoryLaws.{none-opened, after-leaves}
 
-module _ (p : Plan) (v : Valid p) (r : Run) (fits : inRange r ≡ true) where
+module _ (p : Plan) (v : Valid p) (r : Run) (fits : Opens p r) where
   -- ---- one request
 
   abbrev RunServes : ℕ → Sampler → List ℕ → Type 0
@@ -103,41 +103,42 @@ module _ (p : Plan) (v : Valid p) (r : Run) (fits : inRange r ≡ true) where
         long = ap length (a .0 .points-are) ∙ joined-length (runPoint p r) (axisCount p) (run-point-length p r) 0 k;
         point = λ j l.
             let zero-j : 0 + j ≡ j = omega arith in
-            ap (λ (x : List ℕ). take (axisCount p) (drop (j * axisCount p) x)) (a .0 .points-are) ∙ joined-at (runPoint p r) (axisCount p) (run-point-length p r) 0 k j l ∙ run-point p r (0 + j) ∙ ap (λ (t : ℕ). pointOf p (r .start + t)) zero-j;
+            ap (λ (x : List ℕ). take (axisCount p) (drop (j * axisCount p) x)) (a .0 .points-are) ∙ joined-at (runPoint p r) (axisCount p) (run-point-length p r) 0 k j l ∙ ap (runPoint p r) zero-j;
         next = λ buf h l. (
           ap (λ (t : Sampler). stepSpec t buf .code) is ∙ ap (λ (x : _). x .code) (step-at p v r fits buf h k l .0),
-          ap (λ (t : Sampler). take (axisCount p) (stepBuf t buf)) is ∙ step-point p v r fits buf h k l ∙ run-point p r k,
+          ap (λ (t : Sampler). take (axisCount p) (stepBuf t buf)) is ∙ step-point p v r fits buf h k l,
         );
         over = λ buf h e. (
           ap (λ (t : Sampler). stepSpec t buf .code) is ∙ ap (λ (x : _). x .code) (step-over p v r fits buf h k e),
           ap (λ (t : Sampler). blockSpec t buf .code) is ∙ ap (λ (x : _). x .code) (block-over p v r fits buf h k e),
         );
-        jump = λ buf h j l.
-            let n = jump-at p v r fits buf h k (r .start + j) (omega (arith, a .0 .within)) (omega (arith, range-is r fits)) in (
-              ap (λ (t : Sampler). jumpSpec t (r .start + j) buf .code) is ∙ ap (λ (x : _). x .code) (n .0),
-              ap (λ (t : Sampler). take (axisCount p) (jumpBuf t (r .start + j) buf)) is ∙ ap (take (axisCount p)) (n .1)
-                  ∙ take-at (pointOf p (r .start + j)) (drop (axisCount p) buf) (axisCount p) (point-of-length p (r .start + j)),
+        jump = λ buf h i j low l.
+            let n = jump-axis p v r fits buf h k i j low l (omega (arith, a .0 .within)) in (
+              ap (λ (t : Sampler). jumpSpec t (indexAt r i j) buf .code) is ∙ n .0,
+              ap (λ (t : Sampler). getD (jumpBuf t (indexAt r i j) buf) i 0) is ∙ n .1,
             );
       }
 
 -- Demand 2 as one theorem. Bytes are read with code 0 exactly where they are the spelling of a valid plan; of that plan a run is opened with code
--- 0 exactly where it is permitted; and it is then served, from its start on, by any steps and blocks.
+-- 0 exactly where an opening takes it; and it is then served, each axis from its start on, by any steps and blocks.
 pub demand-2 : (bytes : List ℕ) → AllBelow 256 bytes
     → ((readSpec bytes .code ≡ 0) ↔ ((p : Plan) × Valid p × (bytes ≡ spell p)))
     × ((p : Plan) → Valid p → bytes ≡ spell p → (r : Run) → let o = openSpec (readSpec bytes .state) r in
-    ((o .code ≡ 0) ↔ (inRange r ≡ true))
+    ((o .code ≡ 0) ↔ Opens p r)
     × (o .code ≡ 0 → (requests : List Request) → ServesRun p r requests (pointsServed requests (o .state)) (stateAfter requests (o .state))))
 unfolding readSpec readState
 demand-2 bytes below = (
   (λ z. let l = after-leaves (read below z) in (l .plan, l .valid, l .spelled), λ w. rw (w .2, read-spelled (w .0) (w .1)) refl),
   λ p v e r.
-      let is : readState (readPlan bytes) .state ≡ made p (runOf 0 0) 0 = rw (e, read-spelled p v) refl in
-      let l = of-made p v e (runOf 0 0) 0 none-opened is in (
-        (λ z. open-accepted l r z .0, λ fits. ap (λ (s : Sampler). openSpec s r .code) is ∙ ap (λ (a : _). a .code) (open-at p v (runOf 0 0) (none-opened .in-range) 0 (omega arith) r fits)),
+      let is : readState (readPlan bytes) .state ≡ made p (oneStart p 0 0) 0 = rw (e, read-spelled p v) refl in
+      let none = none-opened p v .opens in
+      let answer = ap (λ (s : Sampler). openSpec s r) is in
+      let takes : openSpec (readState (readPlan bytes) .state) r .code ≡ 0 → Opens p r =
+      λ z. open-only p v (oneStart p 0 0) none 0 r (sym (ap (λ (a : _). a .code) answer) ∙ z) in (
+        (takes, λ fits. ap (λ (a : _). a .code) (answer ∙ open-at p v (oneStart p 0 0) none 0 (omega arith) r fits)),
         λ z requests.
-            let fits = open-accepted l r z .0 in
             let left : openSpec (readState (readPlan bytes) .state) r .state ≡ made p r 0 =
-            ap (λ (s : Sampler). openSpec s r .state) is ∙ ap (λ (a : _). a .state) (open-at p v (runOf 0 0) (none-opened .in-range) 0 (omega arith) r fits) in
-            subst (λ (s : Sampler). ServesRun p r requests (pointsServed requests s) (stateAfter requests s)) (sym left) (run-serves p v r fits requests),
+            ap (λ (a : _). a .state) (answer ∙ open-at p v (oneStart p 0 0) none 0 (omega arith) r (takes z)) in
+            subst (λ (s : Sampler). ServesRun p r requests (pointsServed requests s) (stateAfter requests s)) (sym left) (run-serves p v r (takes z) requests),
       ),
 )

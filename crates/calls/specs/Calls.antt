@@ -1,5 +1,5 @@
 -- What each call answers, for all inputs, and what each lent word then holds (01-scope.md, "Runs and windows" and "When a call is turned
--- down"). A call's refusals stand in the papers' order: 01's, and 02's for steps and blocks (K3) and for slots (K4). A refusal answers its number and
+-- down"). A call's refusals stand in the papers' order: 01's, and 02's for steps and blocks (K3), for slots (K4) and for an opening (K6). A refusal answers its number and
 -- zero for every other number, the state as given (a refused reading: the blank state), and changes no lent word. Definitions only.
 use mathlib.Core.Bool.{Bool, not, _&&_}
 use mathlib.Core.List.{List, [], _∷_, _++_}
@@ -10,7 +10,7 @@ use Rattle.plan.specs.Plan.{spell}
 use Rattle.plan.specs.Reading.{Reading, refused, accepted, readPlan}
 use Rattle.plan.specs.Order.{Condition, _when_, firstDue, unlessDue}
 use Rattle.points.specs.Point.{pointOf, slotOf}
-use Rattle.points.specs.Run.{Run, runOf, inRange, runNumerator, runPoint, runPoints}
+use Rattle.points.specs.Run.{Run, oneStart, inRange, hasStarts, runNumerator, runPoint, runPoints}
 use Rattle.writer.specs.declared.PlanWritten.{PlanWritten}
 use Rattle.state.specs.State.{made, blank, planIn, runIn, genuine}
 use Rattle.state.specs.declared.Sampler.{Sampler}
@@ -43,6 +43,10 @@ beyond n = leb (2 ^ 32) n
 abbrev pub spent : Sampler → Bool
 spent s = leb (s .count) (s .taken)
 
+-- 17, split start: not one start for each axis, or unequal starts of a Sobol plan (02-change-requests.md, K6)
+abbrev pub splitStart : Sampler → Run → Bool
+splitStart s r = not (hasStarts (s .family) (s .axes) (r .starts))
+
 -- 13, room: the buffer is shorter than one point, or than the plan
 abbrev pub noPointRoom : Sampler → List ℕ → Bool
 noPointRoom s buf = ltb (length buf) (s .axes)
@@ -64,9 +68,6 @@ noSlots s axis slots = not (hasSlots (s .axes) axis slots)
 
 -- ---- the orders that a run's calls share with their twins of a day set (02-change-requests.md, K1)
 
-abbrev pub openOrder : Bool → Bool → List Condition
-openOrder isForeign outOfRange = 15 when isForeign ∷ 11 when outOfRange ∷ []
-
 abbrev pub jumpOrder : Bool → Bool → Bool → List Condition
 jumpOrder isForeign outOfRange noRoom = 15 when isForeign ∷ 11 when outOfRange ∷ 13 when noRoom ∷ []
 
@@ -78,7 +79,7 @@ runOrder isForeign isSpent noRoom = 15 when isForeign ∷ 13 when noRoom ∷ 12 
 
 unfoldable pub readState : Reading → Moved
 readState (refused n) = moved n blank
-readState (accepted p) = moved 0 (made p (runOf 0 0) 0)
+readState (accepted p) = moved 0 (made p (oneStart p 0 0) 0)
 
 unfoldable pub readSpec : List ℕ → Moved
 readSpec bytes = readState (readPlan bytes)
@@ -102,7 +103,7 @@ writeBuf s buf = unlessDue (writeRefusals s buf) (spell (planIn s) ++ drop (leng
 -- ---- open
 
 abbrev pub openRefusals : Sampler → Run → List Condition
-openRefusals s r = openOrder (foreign s) (not (inRange r))
+openRefusals s r = 15 when foreign s ∷ 11 when not (inRange r) ∷ 17 when splitStart s r ∷ []
 
 unfoldable pub openSpec : Sampler → Run → Moved
 openSpec s r = moved (firstDue (openRefusals s r)) (unlessDue (openRefusals s r) (made (planIn s) r 0) s)

@@ -6,7 +6,8 @@ use Prim.Native.Nat.{ℕ, _*_, _≤_}
 use lib.ListN.{length, take}
 use Rattle.bits.specs.Stream.{AllBelow}
 use Rattle.plan.specs.Order.{unlessNumber}
-use Rattle.points.specs.Run.{Run, runOf}
+use Rattle.points.specs.Run.{Run, oneStart}
+use Rattle.state.specs.State.{planIn}
 use Rattle.state.specs.declared.Sampler.{Sampler}
 use Rattle.calls.specs.Calls.{readSpec, openSpec, stepSpec, stepBuf, blockSpec, blockBuf}
 
@@ -19,7 +20,7 @@ pub data After (bytes : List ℕ) : Sampler → Type 0 where
 
 -- the run that the last accepted opening was given, or start 0 and count 0 after a reading alone
 unfoldable pub lastRun : {bytes : List ℕ} {s : Sampler} → After bytes s → Run
-lastRun (read below z) = runOf 0 0
+lastRun {bytes} {s} (read below z) = oneStart (planIn s) 0 0
 lastRun (opened h r z) = r
 lastRun (stepped h buf z) = lastRun h
 lastRun (filled h buf z) = lastRun h
