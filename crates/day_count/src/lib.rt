@@ -34,7 +34,7 @@ pub fn day_count(d: DaySet, w: &[u64]) -> Counted
         &s.bases,
         &s.polynomials,
         &s.directions,
-        s.start,
+        &s.starts,
         s.count,
         s.taken,
         &s.numerators,

@@ -18,7 +18,7 @@ pub fn jump(s: Sampler, n: u64, out: &mut [u64]) -> Jumped
         &s.bases,
         &s.polynomials,
         &s.directions,
-        s.start,
+        &s.starts,
         s.count,
         s.taken,
         &s.numerators,
@@ -38,7 +38,8 @@ pub fn jump(s: Sampler, n: u64, out: &mut [u64]) -> Jumped
             code: refusal::BUFFER_TOO_SMALL,
         };
     }
-    let x = points::point(s.family, axes, &s.bases, &s.directions, n);
+    let ns = [n; 6];
+    let x = points::point(s.family, axes, &s.bases, &s.directions, &ns);
     bits::store(out, 0, &x[..axes]);
     Jumped { code: 0 }
 }
@@ -84,7 +85,7 @@ pub fn slot(s: Sampler, n: u64, axis: u64, slots: u64) -> Slotted
         &s.bases,
         &s.polynomials,
         &s.directions,
-        s.start,
+        &s.starts,
         s.count,
         s.taken,
         &s.numerators,

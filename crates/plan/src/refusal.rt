@@ -20,7 +20,7 @@ pub const EVEN_NUMBER: u64 = 8;
 pub const REPEATED_POLYNOMIAL: u64 = 9;
 // tail: a filling bit is 1, or a byte follows
 pub const TRAILING_DATA: u64 = 10;
-// range: index of a jump, second, slot or C point at or above 2^32; a run's start + count above 2^32
+// range: index of a jump, second, slot or C point at or above 2^32; start + count of a run above 2^32, for any start given
 pub const OUT_OF_RANGE: u64 = 11;
 // spent: no point left
 pub const EXHAUSTED: u64 = 12;
@@ -32,3 +32,5 @@ pub const BAD_WINDOW: u64 = 14;
 pub const INVALID_STATE: u64 = 15;
 // slots: a slot count outside 1 to 2^24, or an axis that the plan lacks
 pub const BAD_SLOTS: u64 = 16;
+// split start: a Sobol plan with unequal starts, or not one start for each axis
+pub const SPLIT_START: u64 = 17;

@@ -4,7 +4,9 @@ use plan::refusal;
 use state::Sampler;
 use writer::PlanWritten;
 ghost use mathlib.Core.Path.{_≡_};
+ghost use Prim.Native.Nat.{_≤_};
 ghost use lib.ListN.{length};
+ghost use Rattle.numbers.specs.Listed.{padded};
 ghost use Rattle.points.specs.Run.{runOf};
 ghost use Rattle.state.specs.State.{msIn};
 ghost use Rattle.calls.specs.Calls.{readSpec, writeSpec, writeBuf, openSpec};
@@ -50,7 +52,7 @@ pub fn write(s: Sampler, out: &mut [u8]) -> PlanWritten
         &s.bases,
         &s.polynomials,
         &s.directions,
-        s.start,
+        &s.starts,
         s.count,
         s.taken,
         &s.numerators,
@@ -64,9 +66,19 @@ pub fn write(s: Sampler, out: &mut [u8]) -> PlanWritten
     writer::write_plan(out, s.family, s.axes, &s.bases, &s.polynomials, &ms)
 }
 
-// Opens a run, which replaces the old one.
-pub fn open(s: Sampler, start: u64, count: u64) -> Moved
-    ensures { λ r. ⌜ r ≡ openSpec s (runOf start count) ⌝ }
+// The starts, one for each axis, with zeros after them.
+fn six_starts(starts: &[u64]) -> [u64; 6]
+    requires { ⌜ length (now starts) ≤ 6 ⌝ }
+    ensures { λ r. ⌜ r ≡ padded 6 (now (starts .entry)) ⌝ }
+{
+    let mut six = [0u64; 6];
+    bits::store(&mut six, 0, starts);
+    six
+}
+
+// Opens a run, which replaces the old one, with a start for each axis.
+pub fn open(s: Sampler, starts: &[u64], count: u64) -> Moved
+    ensures { λ r. ⌜ r ≡ openSpec s (runOf (now (starts .entry)) count) ⌝ }
 {
     if !genuine::is_genuine(
         s.family,
@@ -74,17 +86,21 @@ pub fn open(s: Sampler, start: u64, count: u64) -> Moved
         &s.bases,
         &s.polynomials,
         &s.directions,
-        s.start,
+        &s.starts,
         s.count,
         s.taken,
         &s.numerators,
     ) {
         return calls::refused(refusal::INVALID_STATE, s);
     }
-    if !points::in_range(start, count) {
+    if !points::all_in_range(starts, count) {
         return calls::refused(refusal::OUT_OF_RANGE, s);
     }
-    let next = state::next_point(s.family, s.axes, &s.bases, &s.directions, start, count, 0);
-    let t = state::with_run(s, start, count, 0, next);
+    if !points::has_starts(s.family, s.axes, starts) {
+        return calls::refused(refusal::SPLIT_START, s);
+    }
+    let six = six_starts(starts);
+    let next = state::next_point(s.family, s.axes, &s.bases, &s.directions, &six, count, 0);
+    let t = state::with_run(s, six, count, 0, next);
     Moved { code: 0, state: t }
 }

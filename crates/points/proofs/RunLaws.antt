@@ -157,6 +157,16 @@ module _ (r : Run) (t : ℕ) where
 
 -- ---- of six starts
 
+-- one index for all
+pub within-all : (n k : ℕ) → n + k ≤ 2 ^ 32 → Within (replicate 6 n) k
+within-all n k h = record { long = length-replicate {A = ℕ} 6 n; at = λ i. ⊎-elim (here i) (beyond i) (lt-or-ge i 6) }
+  where
+    here : (i : ℕ) → i < 6 → getD (replicate 6 n) i 0 + k ≤ 2 ^ 32
+    here i l = omega (arith, getD-replicate 6 i n 0 l)
+
+    beyond : (i : ℕ) → 6 ≤ i → getD (replicate 6 n) i 0 + k ≤ 2 ^ 32
+    beyond i l = omega (arith, List·getD-eq-default (replicate 6 n) 0 {n = i} (omega (arith, length-replicate {A = ℕ} 6 n)))
+
 module _ {starts : List ℕ} {k : ℕ} (w : Within starts k) where
   pub within-less : {j : ℕ} → j ≤ k → Within starts j
   within-less h = record { long = w .long; at = λ i. omega (arith, w .at i) }

@@ -1,11 +1,12 @@
 -- Points by arrays: the words of a point one by one. Assumes nothing.
 use mathlib.Core.Path.{_≡_, ap, _∙_}
 use mathlib.Core.List.{List}
-use Prim.Native.Nat.{ℕ, _<_}
-use lib.ListN.{getD}
+use Prim.Native.Nat.{ℕ, _<_, _≤_}
+use native.Mathlib.Omega.{arith}
+use lib.ListN.{getD, replicate, getD-replicate}
 use Rattle.numbers.specs.Listed.{listed, padded}
 use Rattle.numbers.proofs.ListedLaws.{listed-at, listed-same, padded-at}
-use Rattle.points.specs.Arrays.{numeratorAt, pointAt}
+use Rattle.points.specs.Arrays.{numeratorAt, ofAxis, pointAt}
 
 module _ (family axes : ℕ) (bases vs : List ℕ) where
   pub point-at-word : (n : ℕ → ℕ) (i : ℕ) → i < axes → getD (pointAt family axes bases vs n) i 0 ≡ numeratorAt family bases vs (n i) i
@@ -20,3 +21,7 @@ module _ (family axes : ℕ) (bases vs : List ℕ) where
       ap (padded 6)
       (listed-same (λ i. numeratorAt family bases vs (m i) i) (λ i. numeratorAt family bases vs (n i) i) axes
       (λ i h. ap (λ (k : ℕ). numeratorAt family bases vs k i) (same i h)))
+
+  -- one index for all axes
+  pub point-at-all : axes ≤ 6 → (n : ℕ) → pointAt family axes bases vs (ofAxis (replicate 6 n)) ≡ pointAt family axes bases vs (λ i. n)
+  point-at-all few n = point-at-same (ofAxis (replicate 6 n)) (λ i. n) (λ i h. getD-replicate 6 i n 0 (omega arith))

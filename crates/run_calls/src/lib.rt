@@ -18,7 +18,7 @@ pub fn step(s: Sampler, out: &mut [u64]) -> Moved
         &s.bases,
         &s.polynomials,
         &s.directions,
-        s.start,
+        &s.starts,
         s.count,
         s.taken,
         &s.numerators,
@@ -39,12 +39,12 @@ pub fn step(s: Sampler, out: &mut [u64]) -> Moved
         axes,
         &s.bases,
         &s.directions,
-        s.start,
+        &s.starts,
         s.count,
         s.taken,
         x,
     );
-    let t = state::with_run(s, s.start, s.count, s.taken + 1, next);
+    let t = state::with_run(s, s.starts, s.count, s.taken + 1, next);
     Moved { code: 0, state: t }
 }
 
@@ -85,7 +85,7 @@ pub fn block_rows(s: Sampler, lead: usize, out: &mut [u64]) -> Blocked
         &s.bases,
         &s.polynomials,
         &s.directions,
-        s.start,
+        &s.starts,
         s.count,
         s.taken,
         &s.numerators,
@@ -101,6 +101,7 @@ pub fn block_rows(s: Sampler, lead: usize, out: &mut [u64]) -> Blocked
         return no_block(refusal::EXHAUSTED, s);
     }
     let k = block_size(s.count - s.taken, out.len(), width);
+    let ns = points::indexes(&s.starts, s.taken);
     blocks::fill(
         out,
         lead,
@@ -108,7 +109,7 @@ pub fn block_rows(s: Sampler, lead: usize, out: &mut [u64]) -> Blocked
         axes,
         &s.bases,
         &s.directions,
-        s.start + s.taken,
+        &ns,
         k,
     );
     let taken = s.taken + (k as u64);
@@ -117,11 +118,11 @@ pub fn block_rows(s: Sampler, lead: usize, out: &mut [u64]) -> Blocked
         axes,
         &s.bases,
         &s.directions,
-        s.start,
+        &s.starts,
         s.count,
         taken,
     );
-    let t = state::with_run(s, s.start, s.count, taken, next);
+    let t = state::with_run(s, s.starts, s.count, taken, next);
     Blocked {
         code: 0,
         points: k as u64,

@@ -56,7 +56,7 @@ fn counted_by(s: Sampler, w: &[u64], by_strips: bool) -> Counted
         &s.bases,
         &s.polynomials,
         &s.directions,
-        s.start,
+        &s.starts,
         s.count,
         s.taken,
         &s.numerators,

@@ -15,7 +15,7 @@ is-genuine-requires c κs = search needs
 
 -- where the state is tested, and where it is genuine: the call's start
 abbrev start : tie.After-is-genuine → tie.Start
-start c = c .before .before .before .before .before .before .before
+start c = c .before .before .before .before .before .before .before .before
 
 foreign : (c : tie.Then1) → genuine (start (c .before) .args .t1) ≡ false
 foreign c = foreign-of _ _ (c .before .is-genuine .ensures) (c .if1 .taken)
@@ -39,14 +39,21 @@ returns-3 c =
 
 -- where the point is made, the state is genuine
 abbrev made : tie.After-point → tie.Else1
-made c = c .before .before .before .before .before .before .before .before
+made c = c .before .before .before .before .before .before .before .before .before
 
 point-requires : tie.Need-point-requires
-point-requires c κs = (known-arrays _ (known (c .before .before .before .before .before .before .before)), omega arith)
+point-requires c κs =
+    let k = c .before .before .before .before .before .before .before .before in
+    (known-arrays _ (known k), within-all (start (k .before) .args .n) 1 (omega arith))
+
+-- the point is that of the index on every axis
+point : (c : tie.After-point) → let a = start (made c .before) .args in
+    c .point .result ≡ pointAt (a .t1 .family) (a .t1 .axes) (a .t1 .bases) (a .t1 .directions) (λ i. a .n)
+point c = c .point .ensures ∙ point-at-all _ _ _ _ (axes-few _ (known (made c)) .1) _
 
 -- the words that are stored are the point's, one an axis
 front : (c : tie.After-point) → let a = start (made c .before) .args in length (take (a .t1 .axes) (c .point .result)) ≡ a .t1 .axes
-front c = let a = start (made c .before) .args in front-long (a .t1) (known (made c)) (c .point .result) (a .n) (c .point .ensures)
+front c = let a = start (made c .before) .args in front-long (a .t1) (known (made c)) (c .point .result) (λ i. a .n) (point c)
 
 array-share-prefix-x : tie.Need-array-share-prefix-x
 array-share-prefix-x c = omega (arith, axes-few _ (known (made (c .before))))
@@ -66,7 +73,7 @@ returns-4 c =
     let k = known (made (p .before .before .before)) in
     let a = start (made (p .before .before .before) .before) .args in
     let w = jump-done (a .t1) (a .n) (a .out .now) k (omega arith) (omega arith) in
-    (sym (w .0), point-put (a .t1) k (a .out .now) _ _ (a .n) (p .before .before .before .point .ensures) (p .store .ensures) ∙ sym (w .1))
+    (sym (w .0), point-put (a .t1) k (a .out .now) _ _ (a .n) (point (p .before .before .before)) (p .store .ensures) ∙ sym (w .1))
 
 pub jump-spec : {M : Type 1} → statement M
 jump-spec =

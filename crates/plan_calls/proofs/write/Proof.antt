@@ -14,7 +14,7 @@ is-genuine-requires c κs = search needs
 
 -- the state is tested at the start
 abbrev start : tie.After-is-genuine → tie.Start
-start c = c .before .before .before .before .before .before .before
+start c = c .before .before .before .before .before .before .before .before
 
 foreign : (c : tie.Then1) → genuine (start (c .before) .args .t1) ≡ false
 foreign c = foreign-of _ _ (c .before .is-genuine .ensures) (c .if1 .taken)
