@@ -4,6 +4,9 @@ use mathlib.Core.Bool.{true, false}
 use native.Mathlib.Omega.{arith}
 use borrow.Author.Needs.{needs}
 use lib.ListN.{length, take}
+use Rattle.points.specs.Arrays.{pointAt}
+use Rattle.points.proofs.WordLaws.{point-at-all}
+use Rattle.points.proofs.RunLaws.{within-all}
 use Rattle.state.specs.State.{genuine}
 use Rattle.calls.proofs.CaseLaws.{foreign-of, known-of, jump-foreign, jump-out, jump-no-room, jump-done}
 use Rattle.calls.proofs.PointLaws.{axes-few, point-put, front-long, known-arrays}
@@ -40,6 +43,9 @@ returns-3 c =
 -- where the point is made, the state is genuine
 abbrev made : tie.After-point → tie.Else1
 made c = c .before .before .before .before .before .before .before .before .before
+
+slice-aggregate-point : tie.Need-slice-aggregate-point
+slice-aggregate-point c = search needs
 
 point-requires : tie.Need-point-requires
 point-requires c κs =
@@ -83,6 +89,7 @@ jump-spec =
     returns
     returns-2
     returns-3
+    slice-aggregate-point
     point-requires
     array-share-prefix-x
     slice-aggregate-store
