@@ -33,7 +33,7 @@ fill-column-requires : tie.Need-fill-column-requires Inv-loop μ-loop
 fill-column-requires c κs =
     let s = c .before .before .before .before .before .before .before .before in
     let l = c .before .before .before .loop in
-    (axis-at (s .pre .0) _ (omega arith), (s .pre .2 .at (l .i), omega arith, omega arith, omega (arith, l .inv .1 .same-length)))
+    (axis-at (s .pre .0) _ (omega arith), (s .pre .2 .at _, omega arith, omega arith, omega (arith, l .inv .1 .same-length)))
 
 add-i : tie.Need-add-i Inv-loop μ-loop
 add-i c = omega (arith, c .before .before .before .before .before .before .before .before .before .before .before .pre .0 .few)
