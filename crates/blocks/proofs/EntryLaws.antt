@@ -7,7 +7,7 @@ use native.Mathlib.Omega.{arith}
 use lib.ListN.{length, getD, set, take, drop, length-drop, take-append-drop}
 use lib.Seq.{length-take-le, take-at, drop-at, take-append-le, drop-append-le, getD-set-same, getD-set-other}
 use Rattle.numbers.proofs.Cases.{lt-or-ge}
-use Rattle.points.specs.Arrays.{numeratorFrom, Arrays}
+use Rattle.points.specs.Arrays.{numeratorFrom, numeratorsFrom, Arrays}
 use Rattle.points.proofs.ArrayLaws.{numerator-by-base}
 use Rattle.halton_blocks.specs.Filling.{haltonFrom, Made}
 use Rattle.halton_blocks.proofs.MadeLaws.{made-points}
@@ -43,9 +43,9 @@ all-ready all = record { at = λ i h. all .at i h .ready }
 
 -- the points by the tables are the plan's
 pub all-points : {family axes : ℕ} {bases sizes images tables : List ℕ} → AllMade family axes bases sizes images tables → (family ≡ 2 → ⊥)
-    → (vs : List ℕ) (n a : ℕ) → a < axes → (i : ℕ) → tabledAt bases images n a i ≡ numeratorFrom family bases vs n a i
-unfolding tabledAt numeratorFrom haltonFrom
-all-points {family} {axes} {bases} all f vs n a h i = made-points (all .at a h) n i ∙ numerator-by-base family bases vs (n + i) a f
+    → (vs : List ℕ) (n : ℕ → ℕ) (a : ℕ) → a < axes → (i : ℕ) → tabledAt bases images n a i ≡ numeratorsFrom family bases vs n a i
+unfolding tabledAt numeratorsFrom numeratorFrom haltonFrom
+all-points {family} {axes} {bases} all f vs n a h i = made-points (all .at a h) (n a) i ∙ numerator-by-base family bases vs (n a + i) a f
 
 pub all-none : (family : ℕ) (bases sizes images tables : List ℕ) → AllMade family 0 bases sizes images tables
 all-none family bases sizes images tables = record { at = λ i h. absurd (omega arith) }

@@ -16,9 +16,9 @@ pub record Bases (axes : ℕ) (bases : List ℕ) : Type 0 where
 abbrev pub entriesAt : List ℕ → ℕ → List ℕ
 entriesAt l i = take 256 (drop (256 * i) l)
 
--- the numerator i places after index n on axis a, by the images of its digits
-unfoldable pub tabledAt : List ℕ → List ℕ → ℕ → ℕ → ℕ → ℕ
-tabledAt bases images n a i = tabled (entriesAt images a) (getD bases a 0) n i
+-- the numerator i places after its own index on axis a, by the images of its digits
+unfoldable pub tabledAt : List ℕ → List ℕ → (ℕ → ℕ) → ℕ → ℕ → ℕ
+tabledAt bases images n a i = tabled (entriesAt images a) (getD bases a 0) (n a) i
 
 -- the tables of each axis are ready
 pub record AllReady (axes : ℕ) (bases sizes images tables : List ℕ) : Type 0 where

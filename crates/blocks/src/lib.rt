@@ -4,7 +4,7 @@ ghost use mathlib.Core.Path.{_≡_};
 ghost use Prim.Native.Nat.{_+_, _*_, _^_, _<_, _≤_};
 ghost use lib.ListN.{length};
 ghost use Rattle.columns.specs.Rows.{Column, Columns};
-ghost use Rattle.points.specs.Arrays.{numeratorFrom, AxisAt, Arrays};
+ghost use Rattle.points.specs.Arrays.{numeratorFrom, ofAxis, numeratorsFrom, AxisAt, Arrays, Within};
 ghost use Rattle.blocks.specs.Tables.{Bases, tabledAt, AllReady, AllMade};
 
 // Writes column `j` of the rows `lo` to `hi`, which have `s` words each: the numerators of axis `i`, row 0 being index `n`.
@@ -33,25 +33,26 @@ fn fill_column(
     halton_blocks::halton_column(family, bases[i], n, lo, hi, s, j, out);
 }
 
-// Writes the points of the rows `lo` to `hi`, axis after axis, row 0 being that of index `n`.
+// Writes the points of the rows `lo` to `hi`, axis after axis, row 0 being that of the indexes `ns`, one for each axis.
 fn fill_rows(
     family: u64,
     axes: usize,
     bases: &[u64],
     directions: &[u64],
-    n: u64,
+    ns: &[u64],
     lo: usize,
     hi: usize,
     out: &mut [u64],
     lead: usize,
 )
-    requires { ⌜ Arrays family axes (now bases) (now directions) × (lead ≤ 1) × (n + hi ≤ 2 ^ 32) × (lo ≤ hi) × (hi * (lead + axes) ≤ length (now out)) ⌝ }
-    ensures { λ r. ⌜ Columns (numeratorFrom family (now (bases .entry)) (now (directions .entry)) n) lo hi (lead + axes) lead axes (now (out .entry)) (now (out .exit)) ⌝ }
+    requires { ⌜ Arrays family axes (now bases) (now directions) × (lead ≤ 1) × Within (now ns) hi × (lo ≤ hi) × (hi * (lead + axes) ≤ length (now out)) ⌝ }
+    ensures { λ r. ⌜ Columns (numeratorsFrom family (now (bases .entry)) (now (directions .entry)) (ofAxis (now (ns .entry))))
+        lo hi (lead + axes) lead axes (now (out .entry)) (now (out .exit)) ⌝ }
 {
     let s = lead + axes;
     let mut i = 0;
     while i < axes {
-        fill_column(family, bases, directions, i, n, lo, hi, s, lead + i, out);
+        fill_column(family, bases, directions, i, ns[i], lo, hi, s, lead + i, out);
         i += 1;
     }
 }
@@ -85,22 +86,23 @@ fn make_all_tables(
     sizes
 }
 
-// Writes the points of the rows `lo` to `hi` of a Halton plan, axis after axis, by the tables of all axes.
+// Writes the points of the rows `lo` to `hi` of a Halton plan, axis after axis, by the tables of all axes, row 0 being that of the indexes `ns`.
 fn table_rows(
     axes: usize,
     bases: &[u64],
     images: &[u8],
     tables: &[u64],
     sizes: &[usize],
-    n: u64,
+    ns: &[u64],
     lo: usize,
     hi: usize,
     out: &mut [u64],
     lead: usize,
 )
     requires { ⌜ (axes ≤ 6) × (length (now bases) ≡ 6) × (length (now sizes) ≡ 6) × (length (now images) ≡ 1536) × (length (now tables) ≡ 1536) ⌝ }
-    requires { ⌜ AllReady axes (now bases) (now sizes) (now images) (now tables) × (lead ≤ 1) × (n + hi ≤ 2 ^ 32) × (lo ≤ hi) × (hi * (lead + axes) ≤ length (now out)) ⌝ }
-    ensures { λ r. ⌜ Columns (tabledAt (now (bases .entry)) (now (images .entry)) n) lo hi (lead + axes) lead axes (now (out .entry)) (now (out .exit)) ⌝ }
+    requires { ⌜ AllReady axes (now bases) (now sizes) (now images) (now tables) × (lead ≤ 1) × Within (now ns) hi × (lo ≤ hi) × (hi * (lead + axes) ≤ length (now out)) ⌝ }
+    ensures { λ r. ⌜ Columns (tabledAt (now (bases .entry)) (now (images .entry)) (ofAxis (now (ns .entry))))
+        lo hi (lead + axes) lead axes (now (out .entry)) (now (out .exit)) ⌝ }
 {
     let s = lead + axes;
     let mut i = 0;
@@ -112,7 +114,7 @@ fn table_rows(
             &images[first..last],
             sizes[i],
             &tables[first..last],
-            n,
+            ns[i],
             lo,
             hi,
             s,
@@ -123,7 +125,7 @@ fn table_rows(
     }
 }
 
-// Writes the `k` points of the indexes from `n` on to the first rows of `out`, so many rows at a time that they stay near while the axes pass.
+// Writes the `k` points from the indexes `ns` on to the first rows of `out`, so many rows at a time that they stay near while the axes pass.
 fn fill_plainly(
     out: &mut [u64],
     lead: usize,
@@ -131,21 +133,22 @@ fn fill_plainly(
     axes: usize,
     bases: &[u64],
     directions: &[u64],
-    n: u64,
+    ns: &[u64],
     k: usize,
 )
-    requires { ⌜ Arrays family axes (now bases) (now directions) × (lead ≤ 1) × (n + k ≤ 2 ^ 32) × (k * (lead + axes) ≤ length (now out)) ⌝ }
-    ensures { λ r. ⌜ Columns (numeratorFrom family (now (bases .entry)) (now (directions .entry)) n) 0 k (lead + axes) lead axes (now (out .entry)) (now (out .exit)) ⌝ }
+    requires { ⌜ Arrays family axes (now bases) (now directions) × (lead ≤ 1) × Within (now ns) k × (k * (lead + axes) ≤ length (now out)) ⌝ }
+    ensures { λ r. ⌜ Columns (numeratorsFrom family (now (bases .entry)) (now (directions .entry)) (ofAxis (now (ns .entry))))
+        0 k (lead + axes) lead axes (now (out .entry)) (now (out .exit)) ⌝ }
 {
     let mut i = 0;
     while i < k {
         let end = columns::least(i + 512, k);
-        fill_rows(family, axes, bases, directions, n, i, end, out, lead);
+        fill_rows(family, axes, bases, directions, ns, i, end, out, lead);
         i = end;
     }
 }
 
-// Writes the `k` points of a Halton plan from index `n` on to the first rows of `out`, by tables of all axes that are made once.
+// Writes the `k` points of a Halton plan from the indexes `ns` on to the first rows of `out`, by tables of all axes that are made once.
 fn fill_by_tables(
     out: &mut [u64],
     lead: usize,
@@ -153,11 +156,12 @@ fn fill_by_tables(
     axes: usize,
     bases: &[u64],
     directions: &[u64],
-    n: u64,
+    ns: &[u64],
     k: usize,
 )
-    requires { ⌜ Arrays family axes (now bases) (now directions) × (lead ≤ 1) × (n + k ≤ 2 ^ 32) × (k * (lead + axes) ≤ length (now out)) × (family ≡ 2 → ⊥) ⌝ }
-    ensures { λ r. ⌜ Columns (numeratorFrom family (now (bases .entry)) (now (directions .entry)) n) 0 k (lead + axes) lead axes (now (out .entry)) (now (out .exit)) ⌝ }
+    requires { ⌜ Arrays family axes (now bases) (now directions) × (lead ≤ 1) × Within (now ns) k × (k * (lead + axes) ≤ length (now out)) × (family ≡ 2 → ⊥) ⌝ }
+    ensures { λ r. ⌜ Columns (numeratorsFrom family (now (bases .entry)) (now (directions .entry)) (ofAxis (now (ns .entry))))
+        0 k (lead + axes) lead axes (now (out .entry)) (now (out .exit)) ⌝ }
 {
     let mut images = [0u8; 1536];
     let mut tables = [0u64; 1536];
@@ -171,7 +175,7 @@ fn fill_by_tables(
             &images,
             &tables,
             &sizes,
-            n,
+            ns,
             row,
             end,
             out,
@@ -181,8 +185,8 @@ fn fill_by_tables(
     }
 }
 
-// Writes the `k` points of the indexes from `n` on to the first rows of `out`. For many points of a Halton plan tables of all axes are worth
-// their room.
+// Writes the `k` points from the indexes `ns` on, one for each axis, to the first rows of `out`. For many points of a Halton plan tables of all
+// axes are worth their room.
 pub fn fill<'a>(
     out: &mut [u64],
     lead: usize,
@@ -190,17 +194,18 @@ pub fn fill<'a>(
     axes: usize,
     bases: &'a [u64],
     directions: &'a [u64],
-    n: u64,
+    ns: &[u64],
     k: usize,
 )
-    requires { ⌜ Arrays family axes (now bases) (now directions) × (lead ≤ 1) × (n + k ≤ 2 ^ 32) × (k * (lead + axes) ≤ length (now out)) ⌝ }
-    ensures { λ r. ⌜ Columns (numeratorFrom family (now (bases .entry)) (now (directions .entry)) n) 0 k (lead + axes) lead axes (now (out .entry)) (now (out .exit)) ⌝ }
+    requires { ⌜ Arrays family axes (now bases) (now directions) × (lead ≤ 1) × Within (now ns) k × (k * (lead + axes) ≤ length (now out)) ⌝ }
+    ensures { λ r. ⌜ Columns (numeratorsFrom family (now (bases .entry)) (now (directions .entry)) (ofAxis (now (ns .entry))))
+        0 k (lead + axes) lead axes (now (out .entry)) (now (out .exit)) ⌝ }
 {
     if family != 2 {
         if 1024 <= k {
-            fill_by_tables(out, lead, family, axes, bases, directions, n, k);
+            fill_by_tables(out, lead, family, axes, bases, directions, ns, k);
             return;
         }
     }
-    fill_plainly(out, lead, family, axes, bases, directions, n, k);
+    fill_plainly(out, lead, family, axes, bases, directions, ns, k);
 }

@@ -1,21 +1,25 @@
 -- The walk over a run held in arrays: what an axis leaves of the flags, and what parts of a run add up to. Assumes nothing.
-use mathlib.Core.Path.{_≡_, refl, sym, ap, _∙_}
+use mathlib.Core.Path.{_≡_, refl, ap, _∙_}
 use mathlib.Core.Bool.{Bool, true, false, _&&_, cond}
+use mathlib.Core.Logic.{⊎-elim}
 use mathlib.Core.List.{List}
 use Prim.Native.Nat.{ℕ, _+_, _-_, _*_, _/_, _≤_, _<_}
-use native.Mathlib.Nat.{add-assoc, add-mul, le-div-iff-mul-le}
+use native.Mathlib.Nat.{add-mul, le-div-iff-mul-le}
 use native.Mathlib.Numerals.{add-one}
 use native.Mathlib.Omega.{arith}
 use lib.Dec.{ltb}
-use lib.ListN.{length, take, drop, getD, replicate, getD-replicate}
+use lib.ListN.{length, take, drop, getD, replicate, getD-replicate, List·getD-eq-default}
 use Rattle.numbers.specs.Count.{bit, count, each}
 use Rattle.numbers.specs.Cut.{belowCut}
-use Rattle.numbers.proofs.Cases.{lt-iff}
+use Rattle.numbers.proofs.Cases.{lt-or-ge, lt-iff}
 use Rattle.numbers.proofs.CountLaws.{count-ext, count-parts}
+use Rattle.numbers.proofs.EachLaws.{each-ext}
 use Rattle.marks.specs.Marking.{Marked}
 use Rattle.sobol_tables.specs.Tables.{Directions}
-use Rattle.points.specs.Arrays.{numeratorAt, numeratorFrom, denominatorAt, AxisAt}
+use Rattle.points.specs.Arrays.{numeratorAt, numeratorFrom, denominatorAt, AxisAt, Within}
+use Rattle.points.specs.Run.{runOf, indexAt, indexesAt}
 use Rattle.points.proofs.ArrayLaws.{numerator-at-lt, numerator-by-part, denominator-by-two}
+use Rattle.points.proofs.RunLaws.{indexes-length, indexes-at}
 use Rattle.window.specs.Counting.{cutAt}
 use Rattle.window.specs.Walking.{axisInsideBy, insideFrom}
 use Rattle.inside_count.specs.Flagging.{cutLimit, Flags}
@@ -49,7 +53,7 @@ keep-bit true false = refl
 keep-bit false true = refl
 keep-bit false false = refl
 
-module _ (family : ℕ) (bases vs w : List ℕ) (n : ℕ) where
+module _ (family : ℕ) (bases vs w : List ℕ) (n : ℕ → ℕ) where
   -- no axis yet
   pub flags-none : (m : ℕ) → m ≤ 4096 → Flags (insideFrom family bases vs w 0 n) m (replicate 4096 1)
   unfolding insideFrom each
@@ -57,25 +61,45 @@ module _ (family : ℕ) (bases vs w : List ℕ) (n : ℕ) where
 
   -- one axis more
   pub flags-more : (s m limit : ℕ) (l new : List ℕ) → Flags (insideFrom family bases vs w s n) m l
-      → Marked (numeratorFrom family bases vs n s) limit 0 m l new
+      → Marked (numeratorFrom family bases vs (n s) s) limit 0 m l new
       → limit ≡ cutLimit (cutAt w s .u) (cutAt w s .q) (denominatorAt family bases s) → 1 ≤ cutAt w s .q → Flags (insideFrom family bases vs w (s + 1) n) m new
   unfolding insideFrom each axisInsideBy numeratorFrom
   flags-more s m limit l new f k e pos = record { at = one }
     where
-      one : (i : ℕ) → i < m → getD new i 0 ≡ bit (each (axisInsideBy family bases vs w (n + i)) (s + 1))
+      one : (i : ℕ) → i < m → getD new i 0 ≡ bit (each (λ a. axisInsideBy family bases vs w (n a + i) a) (s + 1))
       one i h =
           k .tested i (omega arith) h
-          ∙ rw (f .at i h, e, limit-cut (numeratorAt family bases vs (n + i) s) (denominatorAt family bases s) (cutAt w s .u) (cutAt w s .q) pos, add-one s)
-          (keep-bit (each (axisInsideBy family bases vs w (n + i)) s) (belowCut (numeratorAt family bases vs (n + i) s) (denominatorAt family bases s) (cutAt w s .u) (cutAt w s .q)))
+          ∙ rw (f .at i h, e, limit-cut (numeratorAt family bases vs (n s + i) s) (denominatorAt family bases s) (cutAt w s .u) (cutAt w s .q) pos, add-one s)
+          (keep-bit (each (λ a. axisInsideBy family bases vs w (n a + i) a) s) (belowCut (numeratorAt family bases vs (n s + i) s) (denominatorAt family bases s) (cutAt w s .u) (cutAt w s .q)))
 
   -- ---- parts of a run
 
-  pub parts-join : (s i m : ℕ) → count (insideFrom family bases vs w s n) (i + m) ≡ count (insideFrom family bases vs w s n) i + count (insideFrom family bases vs w s (n + i)) m
+  -- the second reads on from i places after each index
+  pub parts-join : (s i m : ℕ) (next : ℕ → ℕ) → ((a : ℕ) → a < s → next a ≡ n a + i)
+      → count (insideFrom family bases vs w s n) (i + m) ≡ count (insideFrom family bases vs w s n) i + count (insideFrom family bases vs w s next) m
   unfolding insideFrom
-  parts-join s i m =
+  parts-join s i m next on =
       count-parts (insideFrom family bases vs w s n) i m
       ∙ ap (λ (k : ℕ). count (insideFrom family bases vs w s n) i + k)
-      (count-ext (λ j. insideFrom family bases vs w s n (i + j)) (insideFrom family bases vs w s (n + i)) m (λ j l. ap (λ (k : ℕ). each (axisInsideBy family bases vs w k) s) (sym (add-assoc n i j))))
+      (count-ext (λ j. insideFrom family bases vs w s n (i + j)) (insideFrom family bases vs w s next) m
+      (λ j l.
+      each-ext (λ a. axisInsideBy family bases vs w (n a + (i + j)) a) (λ a. axisInsideBy family bases vs w (next a + j) a) s
+      (λ a h. ap (λ (k : ℕ). axisInsideBy family bases vs w k a) (omega (arith, on a h)))))
+
+-- the indexes that a part begins with
+module _ {ns : List ℕ} {k : ℕ} (w : Within ns k) (count t : ℕ) where
+  pub six-at : (i : ℕ) → i < 6 → getD (indexesAt (runOf ns count) t) i 0 ≡ indexAt (runOf ns count) i t
+  six-at i h = indexes-at (runOf ns count) t i (omega (arith, w .long))
+
+  pub within-on : {j : ℕ} → t + j ≤ k → Within (indexesAt (runOf ns count) t) j
+  unfolding indexAt
+  within-on {j} h = record { long = long; at = λ i. ⊎-elim (λ l. omega (arith, six-at i l, w .at i)) (λ l. omega (arith, w .at i, beyond i l)) (lt-or-ge i 6) }
+    where
+      long : length (indexesAt (runOf ns count) t) ≡ 6
+      long = indexes-length (runOf ns count) t ∙ w .long
+
+      beyond : (i : ℕ) → 6 ≤ i → getD (indexesAt (runOf ns count) t) i 0 ≡ 0
+      beyond i l = List·getD-eq-default (indexesAt (runOf ns count) t) 0 {n = i} (omega (arith, long))
 
 pub count-none : (p : ℕ → Bool) → 0 ≡ count p 0
 unfolding count

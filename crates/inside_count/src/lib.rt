@@ -4,7 +4,7 @@ ghost use mathlib.Core.Bool.{Bool};
 ghost use Prim.Native.Nat.{ℕ, _+_, _*_, _^_, _<_, _≤_};
 ghost use lib.ListN.{length};
 ghost use Rattle.numbers.specs.Count.{count};
-ghost use Rattle.points.specs.Arrays.{numeratorFrom, AxisAt, Arrays};
+ghost use Rattle.points.specs.Arrays.{numeratorFrom, ofAxis, AxisAt, Arrays, Within};
 ghost use Rattle.marks.specs.Marking.{Marked};
 ghost use Rattle.window.specs.Walking.{insideFrom, Room};
 ghost use Rattle.inside_count.specs.Flagging.{cutLimit, Flags};
@@ -54,48 +54,49 @@ fn total(l: &[u8], m: usize) -> u64
     t
 }
 
-// How many of the `m` points from index `n` on are inside: each axis clears the flags of those outside it.
+// How many of the `m` points from the indexes `ns` on, one for each axis, are inside: each axis clears the flags of those outside it.
 fn count_part(
     family: u64,
     axes: usize,
     bases: &[u64],
     directions: &[u64],
-    n: u64,
+    ns: &[u64],
     m: usize,
     w: &[u64],
 ) -> u64
-    requires { ⌜ Arrays family axes (now bases) (now directions) × (n + m ≤ 2 ^ 32) × (m ≤ 4096) × Room (now w) axes ⌝ }
-    ensures { λ r. ⌜ r ≡ count (insideFrom family (now (bases .entry)) (now (directions .entry)) (now (w .entry)) axes n) m ⌝ }
+    requires { ⌜ Arrays family axes (now bases) (now directions) × Within (now ns) m × (m ≤ 4096) × Room (now w) axes ⌝ }
+    ensures { λ r. ⌜ r ≡ count (insideFrom family (now (bases .entry)) (now (directions .entry)) (now (w .entry)) axes (ofAxis (now (ns .entry)))) m ⌝ }
 {
     let mut l = [1u8; 4096];
     let mut i = 0;
     while i < axes {
         let d = points::denominator(family, bases, i);
         let limit = cut_limit(w[2 * i], w[2 * i + 1], d);
-        mark_axis(family, bases, directions, i, n, m, limit, &mut l);
+        mark_axis(family, bases, directions, i, ns[i], m, limit, &mut l);
         i += 1;
     }
     total(&l, m)
 }
 
-// How many of the `k` points from index `n` on are inside.
+// How many of the `k` points from the indexes `ns` on, one for each axis, are inside.
 pub fn count_inside<'a>(
     family: u64,
     axes: usize,
     bases: &'a [u64],
     directions: &'a [u64],
-    n: u64,
+    ns: &[u64],
     k: usize,
     w: &[u64],
 ) -> u64
-    requires { ⌜ Arrays family axes (now bases) (now directions) × (n + k ≤ 2 ^ 32) × Room (now w) axes ⌝ }
-    ensures { λ r. ⌜ r ≡ count (insideFrom family (now (bases .entry)) (now (directions .entry)) (now (w .entry)) axes n) k ⌝ }
+    requires { ⌜ Arrays family axes (now bases) (now directions) × Within (now ns) k × Room (now w) axes ⌝ }
+    ensures { λ r. ⌜ r ≡ count (insideFrom family (now (bases .entry)) (now (directions .entry)) (now (w .entry)) axes (ofAxis (now (ns .entry)))) k ⌝ }
 {
     let mut t = 0;
     let mut i = 0;
     while i < k {
         let end = columns::least(i + 4096, k);
-        t = t + count_part(family, axes, bases, directions, n + (i as u64), end - i, w);
+        let at = points::indexes(ns, i as u64);
+        t = t + count_part(family, axes, bases, directions, &at, end - i, w);
         i = end;
     }
     t

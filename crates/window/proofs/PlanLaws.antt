@@ -1,5 +1,6 @@
 -- The walk over a plan's arrays counts the plan's points, and the bound by them is the plan's, a word. Assumes nothing.
 use mathlib.Core.Path.{_≡_, refl, sym, ap, _∙_}
+use mathlib.Core.Bool.{Bool}
 use mathlib.Core.Logic.{⊎-elim}
 use mathlib.Core.List.{List, [], _∷_}
 use Prim.Native.Nat.{ℕ, zero, suc, _+_, _^_, _≤_, _<_}
@@ -21,9 +22,10 @@ use Rattle.discrepancy.proofs.FitLaws.{bound-fits}
 use Rattle.plan.specs.Plan.{Plan, halton, sobol, Valid}
 use Rattle.points.specs.Point.{axisCount}
 use Rattle.points.specs.Run.{Run, indexAt, runNumerator}
-use Rattle.points.specs.Arrays.{familyOf, basesArray, directionsArray}
+use Rattle.points.specs.Arrays.{familyOf, basesArray, directionsArray, ofAxis}
 use Rattle.points.proofs.ArrayLaws.{numerator-at-plan, denominator-at-plan}
-use Rattle.window.specs.Counting.{Cut, noCut, uOf, qOf, axisInside, stepInside, insideCount, baseAt, cutAxes, boundOf, cutAt, cutsOf}
+use Rattle.points.proofs.RunLaws.{index-padded}
+use Rattle.window.specs.Counting.{Cut, noCut, uOf, qOf, axisInside, stepInside, insideCount, baseAt, cutAxes, runAxes, boundOf, cutAt, cutsOf}
 use Rattle.window.specs.Walking.{axisInsideBy, insideFrom, boundBy}
 
 -- ---- the cuts of a list of numbers
@@ -48,24 +50,30 @@ cuts-at w (suc s) i h =
 
 module _ (p : Plan) (v : Valid p) (w : List ℕ) (r : Run) where
   axis-plan : (t i : ℕ) → i < axisCount p
-      → axisInsideBy (familyOf p) (basesArray p) (directionsArray p) w (r .start + t) i ≡ axisInside p (cutsOf w (axisCount p)) r t i
-  unfolding axisInsideBy axisInside runNumerator indexAt
-  axis-plan t i l = rw (cuts-at w (axisCount p) i l, numerator-at-plan p v (r .start + t) i l, denominator-at-plan p v i) refl
+      → axisInsideBy (familyOf p) (basesArray p) (directionsArray p) w (indexAt r i t) i ≡ axisInside p (cutsOf w (axisCount p)) r t i
+  unfolding axisInsideBy axisInside runNumerator
+  axis-plan t i l = rw (cuts-at w (axisCount p) i l, numerator-at-plan p v (indexAt r i t) i l, denominator-at-plan p v i) refl
 
-  count-plan : count (insideFrom (familyOf p) (basesArray p) (directionsArray p) w (axisCount p) (r .start)) (r .count)
-      ≡ insideCount p (cutsOf w (axisCount p)) r
+  -- by the run's first indexes
+  count-plan : (n : ℕ → ℕ) → ((i t : ℕ) → n i + t ≡ indexAt r i t)
+      → count (insideFrom (familyOf p) (basesArray p) (directionsArray p) w (axisCount p) n) (r .count) ≡ insideCount p (cutsOf w (axisCount p)) r
   unfolding insideCount stepInside insideFrom
-  count-plan =
-      count-ext (insideFrom (familyOf p) (basesArray p) (directionsArray p) w (axisCount p) (r .start)) (stepInside p (cutsOf w (axisCount p)) r) (r .count)
-      (λ t l. each-ext (axisInsideBy (familyOf p) (basesArray p) (directionsArray p) w (r .start + t)) (axisInside p (cutsOf w (axisCount p)) r t) (axisCount p) (axis-plan t))
+  count-plan n same =
+      count-ext (insideFrom (familyOf p) (basesArray p) (directionsArray p) w (axisCount p) n) (stepInside p (cutsOf w (axisCount p)) r) (r .count)
+      (λ t l.
+      each-ext (λ i. by (n i + t) i) (axisInside p (cutsOf w (axisCount p)) r t) (axisCount p)
+      (λ i h. ap (λ (k : ℕ). by k i) (same i t) ∙ axis-plan t i h))
+    where
+      by : ℕ → ℕ → Bool
+      by = axisInsideBy (familyOf p) (basesArray p) (directionsArray p) w
 
 -- ---- the axes
 
 -- zeros behind the bases change no axis
-pub axes-padded : (family : ℕ) (bases : List ℕ) (w : List Cut) (r : Run) → cutAxes family (padded 6 bases) w r ≡ cutAxes family bases w r
+pub axes-padded : (family : ℕ) (bases : List ℕ) (w : List Cut) (r : Run) → runAxes family (padded 6 bases) w r ≡ runAxes family bases w r
 unfolding cutAxes
 axes-padded family bases w r =
-    ap (λ (b : ℕ → ℕ). haltonAxes (λ i. imageOf family (b i)) b (λ i. r .start) 1 (uOf w) (qOf w)) (λ j i. padded-at 6 bases i j)
+    ap (λ (b : ℕ → ℕ). haltonAxes (λ i. imageOf family (b i)) b (λ i. indexAt r i 0) 1 (uOf w) (qOf w)) (λ j i. padded-at 6 bases i j)
 
 -- ---- the bound
 
@@ -86,9 +94,11 @@ bound-of-fits (sobol axes) v N h = omega arith
 
 -- arrays that are a plan's
 module _ (p : Plan) {family axes : ℕ} {bases : List ℕ} (f : family ≡ familyOf p) (a : axes ≡ axisCount p) (b : bases ≡ basesArray p) (v : Valid p) where
-  pub count-held : {vs : List ℕ} → vs ≡ directionsArray p → (w : List ℕ) (r : Run)
-      → count (insideFrom family bases vs w axes (r .start)) (r .count) ≡ insideCount p (cutsOf w (axisCount p)) r
-  count-held d w r = rw (f, a, b, d) (count-plan p v w r)
+  pub count-held : {vs : List ℕ} → vs ≡ directionsArray p → (w : List ℕ) (r : Run) {starts : List ℕ} → starts ≡ padded 6 (r .starts)
+      → count (insideFrom family bases vs w axes (ofAxis starts)) (r .count) ≡ insideCount p (cutsOf w (axisCount p)) r
+  unfolding indexAt
+  count-held d w r {starts} e =
+      rw (f, a, b, d) (count-plan p v w r (ofAxis starts) (λ i t. ap (λ (l : List ℕ). getD l i 0 + t) e ∙ index-padded (r .starts) (r .count) i t))
 
   pub bound-held : (N : ℕ) → boundBy (eqb family 2) bases N axes ≡ boundOf p N
   bound-held N = rw (f, a, b) (bound-plan p v N)

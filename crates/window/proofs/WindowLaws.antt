@@ -46,9 +46,9 @@ module _ (p : Plan) (w : List Cut) (r : Run) where
       (λ t. each-fail (axisInside p w r t) (axisCount p) i l (below-cut-none (runNumerator p r t i) (denominatorOf p i) (uOf w i) (qOf w i) e))
 
 -- a run of no points has none inside
-pub count-of-none : (p : Plan) (w : List Cut) (start : ℕ) → insideCount p w (runOf start 0) ≡ 0
+pub count-of-none : (p : Plan) (w : List Cut) (starts : List ℕ) → insideCount p w (runOf starts 0) ≡ 0
 unfolding insideCount count
-count-of-none p w start = refl
+count-of-none p w starts = refl
 
 -- and the bound 1
 bound-over-none : (bases : List ℕ) (s : ℕ) → bound (baseAt bases) s 0 ≡ 1

@@ -12,7 +12,7 @@ use Rattle.permutation.specs.Families.{imageOf}
 use Rattle.discrepancy.specs.Bound.{CutAxis, bound, haltonAxes}
 use Rattle.plan.specs.Plan.{Plan, halton, sobol}
 use Rattle.points.specs.Point.{axisCount, denominatorOf}
-use Rattle.points.specs.Run.{Run, runNumerator}
+use Rattle.points.specs.Run.{Run, indexAt, runNumerator}
 
 -- a cut at the fraction u / q
 pub record Cut : Type 0 where
@@ -58,9 +58,14 @@ insideCount p w r = count (stepInside p w r) (r .count)
 abbrev pub baseAt : List ℕ → ℕ → ℕ
 baseAt bases i = getD bases i 0
 
--- the axes of a Halton-family plan's run, with their cuts: each reads the index start + t at step t
-unfoldable pub cutAxes : ℕ → List ℕ → List Cut → Run → ℕ → CutAxis
-cutAxes family bases w r = haltonAxes (λ i. imageOf family (baseAt bases i)) (baseAt bases) (λ i. r .start) 1 (uOf w) (qOf w)
+-- the axes of a Halton-family plan, with their cuts: at step t axis i reads its first index + stride × t
+unfoldable pub cutAxes : ℕ → List ℕ → (ℕ → ℕ) → ℕ → (ℕ → Cut) → ℕ → CutAxis
+cutAxes family bases first stride cut =
+    haltonAxes (λ i. imageOf family (baseAt bases i)) (baseAt bases) first stride (λ i. cut i .u) (λ i. cut i .q)
+
+-- as a run reads them
+abbrev pub runAxes : ℕ → List ℕ → List Cut → Run → ℕ → CutAxis
+runAxes family bases w r = cutAxes family bases (λ i. indexAt r i 0) 1 (λ i. getD w i noCut)
 
 -- the bound that a count of N points reports: for Sobol 0, which claims none
 unfoldable pub boundOf : Plan → ℕ → ℕ

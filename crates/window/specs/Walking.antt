@@ -12,9 +12,9 @@ use Rattle.window.specs.Counting.{inCut, baseAt, cutAt}
 unfoldable pub axisInsideBy : ℕ → List ℕ → List ℕ → List ℕ → ℕ → ℕ → Bool
 axisInsideBy family bases vs w n i = inCut (cutAt w i) (numeratorAt family bases vs n i) (denominatorAt family bases i)
 
--- the point t places after index n is inside on the first s axes
-unfoldable pub insideFrom : ℕ → List ℕ → List ℕ → List ℕ → ℕ → ℕ → ℕ → Bool
-insideFrom family bases vs w s n t = each (axisInsideBy family bases vs w (n + t)) s
+-- the point t places after an index for each axis is inside on the first s axes
+unfoldable pub insideFrom : ℕ → List ℕ → List ℕ → List ℕ → ℕ → (ℕ → ℕ) → ℕ → Bool
+insideFrom family bases vs w s n t = each (λ i. axisInsideBy family bases vs w (n i + t) i) s
 
 -- the bound: 0 for Sobol
 unfoldable pub boundBy : Bool → List ℕ → ℕ → ℕ → ℕ

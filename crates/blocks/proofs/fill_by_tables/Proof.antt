@@ -5,16 +5,17 @@ use Prim.Native.Nat.{_+_, _-_, _≤_, _<_}
 use borrow.Author.Needs.{needs}
 use Rattle.columns.specs.Rows.{Columns}
 use Rattle.columns.proofs.ColumnLaws.{columns-empty, columns-as, columns-join, columns-rows}
-use Rattle.points.specs.Arrays.{numeratorFrom}
+use Rattle.points.specs.Arrays.{ofAxis, numeratorsFrom}
 use Rattle.blocks.proofs.EntryLaws.{bases-of, all-ready, all-points}
 use Rattle.blocks.proofs.fill_by_tables.Statement.{statement}
 use Rattle.blocks.proofs.fill_by_tables.Tie as tie
 
 abbrev Inv-loop : tie.InvT-loop
-Inv-loop out₀ lead family axes bases directions n k images tables sizes row₀ out row = (row ≤ k) × Columns (numeratorFrom family bases directions n) 0 row (lead + axes) lead axes out₀ out
+Inv-loop out₀ lead family axes bases directions ns k images tables sizes row₀ out row =
+    (row ≤ k) × Columns (numeratorsFrom family bases directions (ofAxis ns)) 0 row (lead + axes) lead axes out₀ out
 
 abbrev μ-loop : tie.MeasureT-loop
-μ-loop out₀ lead family axes bases directions n k images tables sizes row₀ out row = k - row
+μ-loop out₀ lead family axes bases directions ns k images tables sizes row₀ out row = k - row
 
 -- a chunk is not empty
 further : (c : tie.After-least Inv-loop μ-loop) → c .before .before .loop .row < c .least .result
@@ -28,17 +29,17 @@ slice-aggregate-make-all-tables-2 c = search needs
 
 make-all-tables-requires : tie.Need-make-all-tables-requires Inv-loop μ-loop
 make-all-tables-requires c κs =
-    let s = c .before .before .before .before .before in
+    let s = c .before .before .before .before .before .before in
     (bases-of (s .pre .0) (s .pre .4), search needs, search needs)
 
 loop-holds : tie.Need-loop-holds Inv-loop μ-loop
 loop-holds c = (omega arith, columns-empty _ _ _ _ _ _)
 
 add-least : tie.Need-add-least Inv-loop μ-loop
-add-least c = omega arith
+add-least c = omega (arith, c .before .before .before .before .before .before .before .before .before .before .before .pre .2 .at 0)
 
 least-requires : tie.Need-least-requires Inv-loop μ-loop
-least-requires c κs = omega arith
+least-requires c κs = omega (arith, c .before .before .before .before .before .before .before .before .before .before .before .pre .2 .at 0)
 
 slice-aggregate-table-rows : tie.Need-slice-aggregate-table-rows Inv-loop μ-loop
 slice-aggregate-table-rows c = search needs
@@ -51,7 +52,7 @@ slice-aggregate-table-rows-3 c = search needs
 
 table-rows-requires : tie.Need-table-rows-requires Inv-loop μ-loop
 table-rows-requires c κs =
-    let s = c .before .before .before .before .before .before .before .before .before .before .before .before .before .before .before in
+    let s = c .before .before .before .before .before .before .before .before .before .before .before .before .before .before .before .before in
     let a = s .args in
     let l = c .before .before .before .before .before .before .loop in
     let e = c .before .before .before .before .least .ensures in (
@@ -59,7 +60,7 @@ table-rows-requires c κs =
       (
         all-ready (c .before .before .before .before .before .before .before .before .before .make-all-tables .ensures),
         s .pre .1,
-        omega (arith, e .1),
+        record { long = s .pre .2 .long; at = λ i. omega (arith, s .pre .2 .at i, e .1) },
         omega (arith, further (c .before .before .before .before)),
         omega (arith, l .inv .1 .same-length, mul-le-mul-right {m = c .before .before .before .before .least .result} {n = a .k} (a .lead + a .axes) (e .1)),
       ),
@@ -73,10 +74,10 @@ loop-again c =
     let t = c .before .before .before .before .before .before .before in
     let l = t .before .before .loop in
     let made = t .before .before .before .before .before .make-all-tables .ensures in
-    let s = t .before .before .before .before .before .before .before .before .before .before .before in
+    let s = t .before .before .before .before .before .before .before .before .before .before .before .before in
     let a = s .args in
-    let f = numeratorFrom (a .family) (a .bases .now) (a .directions .now) (a .n) in
-    let rows = columns-as (c .before .before .table-rows .ensures) f (all-points made (s .pre .4) (a .directions .now) (a .n)) in
+    let f = numeratorsFrom (a .family) (a .bases .now) (a .directions .now) (ofAxis (a .ns .now)) in
+    let rows = columns-as (c .before .before .table-rows .ensures) f (all-points made (s .pre .4) (a .directions .now) (ofAxis (a .ns .now))) in
     (t .least .ensures .1, columns-join (l .inv .1) rows (omega arith) (omega (arith, further t)) (omega arith))
 
 same-length : tie.Need-same-length Inv-loop μ-loop

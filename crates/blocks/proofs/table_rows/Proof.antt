@@ -7,25 +7,26 @@ use lib.ListN.{getD, take, drop}
 use borrow.Author.Needs.{needs}
 use Rattle.columns.specs.Rows.{Columns}
 use Rattle.columns.proofs.ColumnLaws.{column-as, columns-none, columns-more, columns-to}
+use Rattle.points.specs.Arrays.{ofAxis}
 use Rattle.halton_blocks.specs.Filling.{Ready}
 use Rattle.blocks.specs.Tables.{tabledAt}
 use Rattle.blocks.proofs.table_rows.Statement.{statement}
 use Rattle.blocks.proofs.table_rows.Tie as tie
 
 abbrev Inv-loop : tie.InvT-loop
-Inv-loop axes bases images tables sizes n lo hi out₀ lead s i₀ out i = (i ≤ axes) × Columns (tabledAt bases images n) lo hi (lead + axes) lead i out₀ out
+Inv-loop axes bases images tables sizes ns lo hi out₀ lead s i₀ out i = (i ≤ axes) × Columns (tabledAt bases images (ofAxis ns)) lo hi (lead + axes) lead i out₀ out
 
 abbrev μ-loop : tie.MeasureT-loop
-μ-loop axes bases images tables sizes n lo hi out₀ lead s i₀ out i = axes - i
+μ-loop axes bases images tables sizes ns lo hi out₀ lead s i₀ out i = axes - i
 
 -- the tables of the turn's axis, as the code takes them
 ready : (c : tie.In-loop Inv-loop μ-loop) →
-    let a = c .before .before .before .before .before .before .before .args in
+    let a = c .before .before .before .before .before .before .before .before .args in
     let i = c .before .loop .i in
     let k = 256 * i + 256 - 256 * i in
     Ready (getD (now (a .bases)) i 0) (getD (now (a .sizes)) i 0) (take k (drop (256 * i) (now (a .images)))) (take k (drop (256 * i) (now (a .tables))))
 ready c =
-    let s = c .before .before .before .before .before .before .before in
+    let s = c .before .before .before .before .before .before .before .before in
     let i = c .before .loop .i in
     let k : 256 * i + 256 - 256 * i ≡ 256 = omega arith in
     rw k (s .pre .1 .0 .at i (omega arith))
@@ -75,13 +76,21 @@ part-fill-tiles-start-2 c = omega arith
 part-fill-tiles-end-2 : tie.Need-part-fill-tiles-end-2 Inv-loop μ-loop
 part-fill-tiles-end-2 c = omega arith
 
+mul-fill-tiles-4 : tie.Need-mul-fill-tiles-4 Inv-loop μ-loop
+mul-fill-tiles-4 c = omega arith
+
+shared-slice-read-fill-tiles-3 : tie.Need-shared-slice-read-fill-tiles-3 Inv-loop μ-loop
+shared-slice-read-fill-tiles-3 c = omega (arith, c .before .before .before .before .before .before .before .before .before .before .before .before .before .pre .1 .2 .long)
+
 add-fill-tiles : tie.Need-add-fill-tiles Inv-loop μ-loop
 add-fill-tiles c = omega arith
 
 fill-tiles-requires : tie.Need-fill-tiles-requires Inv-loop μ-loop
 fill-tiles-requires c κs =
-    let l = c .before .before .before .before .before .before .loop in
-    ((ready (c .before .before .before .before .before), search needs, search needs), (omega arith, omega arith, omega arith, omega (arith, l .inv .1 .same-length)))
+    let t = c .before .before .before .before .before .before in
+    let l = t .before .loop in
+    let w = t .before .before .before .before .before .before .before .before .pre .1 .2 in
+    ((ready t, search needs, search needs), (w .at (l .i), omega arith, omega arith, omega (arith, l .inv .1 .same-length)))
 
 add-i : tie.Need-add-i Inv-loop μ-loop
 add-i c = omega arith
@@ -92,12 +101,12 @@ loop-less c = omega arith
 loop-again : tie.Need-loop-again Inv-loop μ-loop
 unfolding tabledAt
 loop-again c =
-    let a = c .before .before .before .before .before .before .before .before .before .before .before .before .before .before .before .args in
-    let l = c .before .before .before .before .before .before .before .before .before .loop in
+    let a = c .before .before .before .before .before .before .before .before .before .before .before .before .before .before .before .before .before .args in
+    let l = c .before .before .before .before .before .before .before .before .before .before .loop in
     let k : 256 * l .i + 256 - 256 * l .i ≡ 256 = omega arith in (
       omega arith,
       columns-more (l .inv .1)
-          (column-as (c .before .before .fill-tiles .ensures) (tabledAt (now (a .bases)) (now (a .images)) (a .n) (l .i)) (λ x h q. rw k refl))
+          (column-as (c .before .before .fill-tiles .ensures) (tabledAt (now (a .bases)) (now (a .images)) (ofAxis (now (a .ns))) (l .i)) (λ x h q. rw k refl))
           (omega arith),
     )
 
@@ -128,6 +137,8 @@ table-rows-spec =
     sub-fill-tiles-2
     part-fill-tiles-start-2
     part-fill-tiles-end-2
+    mul-fill-tiles-4
+    shared-slice-read-fill-tiles-3
     add-fill-tiles
     fill-tiles-requires
     add-i
