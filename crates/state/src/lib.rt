@@ -82,7 +82,7 @@ pub fn next_point<'a>(
     axes: usize,
     bases: &'a [u64],
     directions: &'a [u64],
-    starts: &[u64],
+    starts: &'a [u64],
     count: u64,
     taken: u64,
 ) -> [u64; 6]
@@ -103,7 +103,7 @@ pub fn point_after<'a>(
     axes: usize,
     bases: &'a [u64],
     directions: &'a [u64],
-    starts: &[u64],
+    starts: &'a [u64],
     count: u64,
     taken: u64,
     x: [u64; 6],

@@ -1,5 +1,5 @@
 -- One case law a return; what is written is the state's next point, and the state is advanced by a step. Assumes nothing.
-use mathlib.Core.Path.{_≡_, sym, ap, _∙_}
+use mathlib.Core.Path.{_≡_, refl, sym, ap, _∙_}
 use mathlib.Core.Bool.{true, false}
 use Prim.Native.Nat.{_+_}
 use native.Mathlib.Omega.{arith}
@@ -8,7 +8,7 @@ use lib.ListN.{length, take}
 use Rattle.state.specs.State.{runIn, genuine}
 use Rattle.calls.specs.Calls.{moved}
 use Rattle.calls.proofs.CaseLaws.{foreign-of, known-of, run-foreign, run-spent, run-no-room, run-clear, step-refused, step-done}
-use Rattle.calls.proofs.PointLaws.{axes-few, step-put, front-long, known-arrays, known-run, known-next, next-of}
+use Rattle.calls.proofs.PointLaws.{axes-few, step-put, front-long, known-arrays, known-starts, known-run, known-next, known-point, next-of}
 use Rattle.run_calls.proofs.step.Statement.{statement}
 use Rattle.run_calls.proofs.step.Tie as tie
 
@@ -17,7 +17,7 @@ is-genuine-requires c κs = search needs
 
 -- the state is tested at the start
 abbrev start : tie.After-is-genuine → tie.Start
-start c = c .before .before .before .before .before .before .before
+start c = c .before .before .before .before .before .before .before .before
 
 foreign : (c : tie.Then1) → genuine (start (c .before) .args .t1) ≡ false
 foreign c = foreign-of _ _ (c .before .is-genuine .ensures) (c .if1 .taken)
@@ -61,7 +61,7 @@ front : (c : tie.After-store-arg) → let a = start (clear c .before) .args in l
 front c =
     let a = start (clear c .before) .args in
     let k = known (clear c) in
-    front-long (a .t1) k (a .t1 .numerators) (a .t1 .start + a .t1 .taken) (known-next (a .t1) k (omega arith))
+    front-long (a .t1) k (a .t1 .numerators) _ (known-next (a .t1) k (omega arith))
 
 array-share-prefix-x : tie.Need-array-share-prefix-x
 array-share-prefix-x c =
@@ -76,29 +76,28 @@ store-requires c κs = omega (arith, front (c .before))
 
 point-after-requires : tie.Need-point-after-requires
 point-after-requires c κs =
-    let k = known (clear (c .before .before .before .before .before .before .before .before .before)) in
-    (known-arrays _ k, omega (arith, known-run _ k), omega arith, known-next _ k (omega arith))
+    let k = known (clear (c .before .before .before .before .before .before .before .before .before .before .before)) in
+    (known-arrays _ k, known-run _ k .0, omega arith, known-next _ k (omega arith))
 
 add-with-run : tie.Need-add-with-run
-add-with-run c = omega (arith, known-run _ (known (clear (c .before .before .before .before .before .before .before .before .before .before))))
+add-with-run c = let k = known-run _ (known (clear (c .before .before .before .before .before .before .before .before .before .before .before .before .before))) in omega (arith, k .0 .at 0, k .1)
 
 with-run-requires : tie.Need-with-run-requires
-with-run-requires c κs =
-    let a = start (clear (c .before .before .before .before .before .before .before .before .before .before) .before) .args in
-    let k = known (clear (c .before .before .before .before .before .before .before .before .before .before)) in
-    (k, c .point-after .ensures ∙ next-of (a .t1) k (runIn (a .t1)) (a .t1 .taken + 1))
+with-run-requires c κs = known (clear (c .before .before .before .before .before .before .before .before .before .before .before .before .before))
 
 same-length : tie.Need-same-length
 same-length c = search needs
 
 returns-4 : tie.Need-returns-4
 returns-4 c =
-    let p = c .before .before .before .before .before .before .before .before .before .before .before in
+    let p = c .before .before .before .before .before .before .before .before .before .before .before .before .before .before in
     let k = known (clear p) in
     let a = start (clear p .before) .args in
-    let w = step-done (a .t1) (a .out .now) (run-clear (a .t1) (a .out .now) _ k (omega arith) (omega arith)) in (
-      ap (moved 0) (c .with-run .ensures) ∙ sym (w .0),
-      step-put (a .t1) k (a .out .now) _ _ (a .t1 .taken) (known-next (a .t1) k (omega arith)) (c .before .before .before .before .before .before .before .before .before .store .ensures) ∙ sym (w .1),
+    let r = runIn (a .t1) in
+    let w = step-done (a .t1) (a .out .now) (run-clear (a .t1) (a .out .now) _ k (omega arith) (omega arith)) in
+    let starts = known-starts (a .t1) k in (
+      ap (moved 0) (c .with-run .ensures r starts refl (c .before .before .point-after .ensures ∙ next-of (a .t1) k r starts (a .t1 .taken + 1))) ∙ sym (w .0),
+      step-put (a .t1) k (a .out .now) _ _ (a .t1 .taken) (known-point (a .t1) k (omega arith)) (c .before .before .before .before .before .before .before .before .before .before .before .before .store .ensures) ∙ sym (w .1),
     )
 
 pub step-spec : {M : Type 1} → statement M
