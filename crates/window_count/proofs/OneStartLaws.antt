@@ -6,7 +6,7 @@ use lib.ListN.{getD}
 use Rattle.numbers.specs.Count.{count}
 use Rattle.numbers.proofs.CountLaws.{count-ext}
 use Rattle.numbers.proofs.EachLaws.{each-ext}
-use Rattle.plan.specs.Order.{unlessDue}
+use Rattle.plan.specs.Order.{firstDue, unlessDue}
 use Rattle.plan.specs.Plan.{Plan}
 use Rattle.points.specs.Point.{axisCount, numeratorOf, denominatorOf}
 use Rattle.points.specs.Run.{Run, oneStart, runNumerator}
@@ -34,5 +34,5 @@ module _ (p : Plan) (w : List Cut) (start N : ℕ) where
 pub one-counted : (start : ℕ) (s : Sampler) → HasOne start s → (w : List ℕ) → countSpec s w ≡ oneCount start s w
 unfolding countSpec oneCount
 one-counted start s h w =
-    ap (λ (n : ℕ). counted _ (unlessDue (countRefusals s w) n 0) (unlessDue (countRefusals s w) (boundOf (planIn s) (s .count)) 0))
+    ap (λ (n : ℕ). counted (firstDue (countRefusals s w)) (unlessDue (countRefusals s w) n 0) (unlessDue (countRefusals s w) (boundOf (planIn s) (s .count)) 0))
     (ap (insideCount (planIn s) (cutsOf w (s .axes))) (h .one) ∙ one-inside (planIn s) (cutsOf w (s .axes)) start (s .count))
