@@ -13,6 +13,7 @@ use Rattle.plan.specs.Order.{firstDue, unlessDue}
 use Rattle.plan.proofs.OrderLaws.{none-due, other-due, none-given}
 use Rattle.points.specs.Run.{Run}
 use Rattle.points.specs.Arrays.{ofAxis}
+use Rattle.points.proofs.RunLaws.{from-padded}
 use Rattle.state.specs.State.{planIn, runIn, genuine}
 use Rattle.state.specs.declared.Sampler.{Sampler}
 use Rattle.state.proofs.GenuineLaws.{Genuine, genuine-is}
@@ -60,7 +61,7 @@ module _ (s : Sampler) (w : List ℕ) where
         → count (insideFrom (s .family) (s .bases) (s .directions) w (s .axes) (ofAxis starts)) (r .count) ≡ insideCount (planIn s) (cutsOf w (s .axes)) r
     count-in-arrays r e =
         let h = genuine-holds is in
-        count-held (planIn s) (h .family-is) (h .axes-is) (h .bases-is) (is .valid) (h .directions-is) w r e
+        count-held (planIn s) (h .family-is) (h .axes-is) (h .bases-is) (is .valid) (h .directions-is) w r _ (λ i t l. from-padded r e i t)
         ∙ ap (λ (k : ℕ). insideCount (planIn s) (cutsOf w k) r) (sym (h .axes-is))
 
     pub bound-known : (N : ℕ) → boundBy (eqb (s .family) 2) (s .bases) N (s .axes) ≡ boundOf (planIn s) N
