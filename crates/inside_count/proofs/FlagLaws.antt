@@ -68,9 +68,12 @@ module _ (family : ℕ) (bases vs w : List ℕ) (n : ℕ → ℕ) where
     where
       one : (i : ℕ) → i < m → getD new i 0 ≡ bit (each (λ a. axisInsideBy family bases vs w (n a + i) a) (s + 1))
       one i h =
+          let x = numeratorAt family bases vs (n s + i) s in
+          let d = denominatorAt family bases s in
+          let c = cutAt w s in
           k .tested i (omega arith) h
-          ∙ rw (f .at i h, e, limit-cut (numeratorAt family bases vs (n s + i) s) (denominatorAt family bases s) (cutAt w s .u) (cutAt w s .q) pos, add-one s)
-          (keep-bit (each (λ a. axisInsideBy family bases vs w (n a + i) a) s) (belowCut (numeratorAt family bases vs (n s + i) s) (denominatorAt family bases s) (cutAt w s .u) (cutAt w s .q)))
+          ∙ rw (f .at i h, e, limit-cut x d (c .u) (c .q) pos, add-one s)
+          (keep-bit (each (λ a. axisInsideBy family bases vs w (n a + i) a) s) (belowCut x d (c .u) (c .q)))
 
   -- ---- parts of a run
 
@@ -93,7 +96,10 @@ module _ {ns : List ℕ} {k : ℕ} (w : Within ns k) (count t : ℕ) where
 
   pub within-on : {j : ℕ} → t + j ≤ k → Within (indexesAt (runOf ns count) t) j
   unfolding indexAt
-  within-on {j} h = record { long = long; at = λ i. ⊎-elim (λ l. omega (arith, six-at i l, w .at i)) (λ l. omega (arith, w .at i, beyond i l)) (lt-or-ge i 6) }
+  within-on {j} h = record {
+    long = long;
+    at = λ i. ⊎-elim (λ l. omega (arith, w .at i, six-at i l)) (λ l. omega (arith, w .at i, beyond i l)) (lt-or-ge i 6);
+  }
     where
       long : length (indexesAt (runOf ns count) t) ≡ 6
       long = indexes-length (runOf ns count) t ∙ w .long

@@ -69,7 +69,8 @@ module _ {bases starts w order rows : List ℕ} {s : ℕ} (row : Rowed bases sta
               })
 
       -- row i is the axis that stands there in the order
-      row-inside : (r t i : ℕ) → i < s → endsIn (tableAxes l rows) (0 + r * t) i ≡ axisIn (cutAxes family bases (ofAxis starts) r (cutAt w)) t (getD order i 0)
+      row-inside : (r t i : ℕ) → i < s → endsIn (tableAxes l rows) (0 + r * t) i
+          ≡ axisIn (cutAxes family bases (ofAxis starts) r (cutAt w)) t (getD order i 0)
       unfolding inEnds tableAxes haltonEnds haltonAxes inCut cutAxes withinRest belowRest numerator denominator
       row-inside r t i b =
           let x = getD order i 0 in
@@ -84,7 +85,8 @@ module _ {bases starts w order rows : List ℕ} {s : ℕ} (row : Rowed bases sta
           (numerator-ext (imageFrom l (256 * i)) (imageOf family base) base (depth base) n (omega (arith, g .low x (o .low i b)))
           (λ d k. f .at i d b k)))
 
-      pub run-counted : (r k : ℕ) → count (insideAlong (tableAxes l rows) s 0 r) k ≡ count (inside (cutAxes family bases (ofAxis starts) r (cutAt w)) s) k
+      pub run-counted : (r k : ℕ) → count (insideAlong (tableAxes l rows) s 0 r) k
+          ≡ count (inside (cutAxes family bases (ofAxis starts) r (cutAt w)) s) k
       unfolding insideAlong insideEnds inside
       run-counted r k =
           let ax = cutAxes family bases (ofAxis starts) r (cutAt w) in

@@ -60,7 +60,8 @@ fn count_strips(
     w: &[u64],
     order: &[u64],
 ) -> u64
-    requires { ⌜ Bases axes (now bases) × (axes ≤ length (now ns)) × Reached (now ns) axes stride k × (k ≤ 2 ^ 32) × Room (now w) axes × (axes ≤ length (now order)) × Order axes (now order) ⌝ }
+    requires { ⌜ Bases axes (now bases) × (axes ≤ length (now ns)) × Reached (now ns) axes stride k × (k ≤ 2 ^ 32)
+        × Room (now w) axes × (axes ≤ length (now order)) × Order axes (now order) ⌝ }
     ensures { λ r. ⌜ r ≡ count (inside (cutAxes family (now (bases .entry)) (ofAxis (now (ns .entry))) stride (cutAt (now (w .entry)))) axes) k ⌝ }
 {
     let mut rows = [0u64; 30];
@@ -81,7 +82,8 @@ pub fn count_inside<'a>(
     w: &[u64],
 ) -> u64
     requires { ⌜ Arrays family axes (now bases) (now directions) × Within (now ns) k × Room (now w) axes ⌝ }
-    ensures { λ r. ⌜ r ≡ count (insideFrom family (now (bases .entry)) (now (directions .entry)) (now (w .entry)) axes (ofAxis (now (ns .entry)))) k ⌝ }
+    ensures { λ r. ⌜ r ≡ count (insideFrom family (now (bases .entry)) (now (directions .entry)) (now (w .entry)) axes
+        (ofAxis (now (ns .entry)))) k ⌝ }
 {
     let mut order = [0u64; 6];
     if strip_order::is_walked(family, axes, bases, k as u64, w, &mut order) {
