@@ -56,8 +56,10 @@ def text_of(line, is_first):
 # ---- the numbers of a line
 
 
-def numbers(words, form, count=None):
-    misread_if(count not in (None, len(words)), f"{form}, but the number of words after the first is {len(words)}")
+def numbers(words, form, count=None, least=0):
+    """The numbers of a line that has `count` of them, or else `least` or more."""
+    is_wrong = len(words) < least if count is None else len(words) != count
+    misread_if(is_wrong, f"{form}, but the number of words after the first is {len(words)}")
     return [number(word, place, form) for place, word in enumerate(words, 2)]
 
 
@@ -90,7 +92,7 @@ def read(console, words):
     misread_if(other, f"hexadecimal digits, but character {other} of HEX is another")
     misread_if(len(digits) % 2, "two hexadecimal digits a byte, got an odd number of digits")
     code, plan = refusable(lambda: reference.read(bytes.fromhex(digits.decode())))
-    console.held[Run] = states.BLANK if code else states.made(plan, 0, 0, 0)
+    console.held[Run] = states.BLANK if code else states.made(plan, reference.one_start(plan, 0), 0, 0)
     return [code]
 
 
@@ -108,23 +110,27 @@ def write(console, words):
     return [code, len(data)] + [lent.hex()] * (room > 0)
 
 
-def opened(console, start, count):
-    """The words of the state's plan with this run."""
-    plan = Run(console.held[Run]).plan
-    reference.refuse_if(start + count > INDEXES, 11)
-    return states.made(plan, start, count, 0)
+def opened(plan, starts, count):
+    """The words of a plan with this run."""
+    reference.refuse_run(plan, starts, count)
+    return states.made(plan, starts, count, 0)
 
 
 def open_run(console, words):
-    count, start = numbers(words, "open COUNT START", 2)
-    code, state = refusable(lambda: opened(console, start, count))
+    count, *starts = numbers(words, "open COUNT START ..", least=1)
+    code, state = refusable(lambda: opened(Run(console.held[Run]).plan, starts, count))
     console.held[Run] = state or console.held[Run]
     return [code]
 
 
 def make_day_set(console, words):
     (size,) = numbers(words, "day N", 1)
-    code, day_set = refusable(lambda: opened(console, 0, size))
+
+    def made():
+        plan = Run(console.held[Run]).plan
+        return opened(plan, reference.one_start(plan, 0), size)
+
+    code, day_set = refusable(made)
     console.held[DaySet] = day_set or states.BLANK
     return [code]
 
@@ -166,7 +172,7 @@ def jump(kind, form, console, words):
         held = kind(console.held[kind])
         reference.refuse_if(index >= held.indexes, 11)
         reference.refuse_if(room < held.width, 13)
-        return held.points(index, 1)[0]
+        return held.point(index)
 
     code, written = refusable(point)
     return [code] + lent_words(room, written or ())
@@ -180,7 +186,7 @@ def points_taken(kind, console, room, most):
         reference.refuse_if(room < held.width, 13)
         reference.refuse_if(held.taken >= held.count, 12)
         k = min(most, held.count - held.taken, room // held.width)
-        return k, held.moved(k), held.points(held.start + held.taken, k)
+        return k, held.moved(k), held.points(held.taken, k)
 
     code, took = refusable(taken_points)
     if code:
@@ -219,7 +225,7 @@ def show(kind, form, console, words):
 
 def poke(kind, form, console, words):
     place, value = numbers(words, form, 2)
-    misread_if(place >= states.WORDS, "PLACE to be at most 214")
+    misread_if(place >= states.WORDS, "PLACE to be at most 219")
     here = console.held[kind]
     console.held[kind] = here[:place] + (value,) + here[place + 1 :]
     return [place, value]

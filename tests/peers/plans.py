@@ -170,3 +170,15 @@ def random_index(rng, base=2):
     near = rng.choice((rng.randrange(1000), power * rng.randint(1, base) + rng.randint(-2, 2), 2**32 - rng.randint(1, 9)))
     anything = rng.randrange(2 ** rng.randint(1, 32))
     return min(max(rng.choice((near, anything, rng.randrange(2**32))), 0), 2**32 - 1)
+
+
+def random_start(rng, count, base=2):
+    """Of a run of so many points: 0, any index, or the last that leaves room for them."""
+    return min(rng.choice((0, random_index(rng, base), 2**32 - count)), 2**32 - count)
+
+
+def random_starts(rng, plan, count):
+    """A start for each axis: one for all, as those of a Sobol plan have it, or each its own."""
+    if plan.family == SOBOL or rng.random() < 0.3:
+        return reference.one_start(plan, random_start(rng, count))
+    return tuple(random_start(rng, count, base) for base in plan.axes)

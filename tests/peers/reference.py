@@ -1,6 +1,6 @@
-"""Plans, points, window counts and day sets in plain Python, written from the papers alone: the scope document 01, K1, K2, K4 and K5 of the change
-requests 02, and the source documents 001 (Faure's and Kocis and Whiten's permutations), 002 and 004 (van der Corput, Halton, Hammersley) and 003
-(Sobol). It shares nothing with the crates, and is slow on purpose."""
+"""Plans, points, runs, window counts and day sets in plain Python, written from the papers alone: the scope document 01, K1, K2, K4, K5 and K6 of
+the change requests 02, and the source documents 001 (Faure's and Kocis and Whiten's permutations), 002 and 004 (van der Corput, Halton, Hammersley)
+and 003 (Sobol). It shares nothing with the crates, and is slow on purpose. A run has a tuple of starts, one for each axis."""
 from collections import namedtuple
 from functools import lru_cache
 from itertools import takewhile
@@ -180,10 +180,13 @@ def sobol_numerator(axis, index):
     return x
 
 
+def numerator(family, axis, index):
+    return sobol_numerator(axis, index) if family == SOBOL else halton_numerator(axis, index, images(family, axis))
+
+
 def point(plan, index):
-    if plan.family == SOBOL:
-        return tuple(sobol_numerator(axis, index) for axis in plan.axes)
-    return tuple(halton_numerator(base, index, images(plan.family, base)) for base in plan.axes)
+    """The point of an index, which every axis reads."""
+    return tuple(numerator(plan.family, axis, index) for axis in plan.axes)
 
 
 def second(plan, index):
@@ -197,6 +200,25 @@ def slot(plan, index, axis, slots):
     return point(plan, index)[axis - 1] * slots // denominators(plan)[axis - 1]
 
 
+# ---- runs
+
+
+def one_start(plan, start):
+    """One start for all axes."""
+    return (start,) * len(plan.axes)
+
+
+def refuse_run(plan, starts, count):
+    """Refuses a run if a start given is out of range, and then if there is not one for each axis, which those of a Sobol plan share."""
+    refuse_if(any(start + count > INDEXES for start in starts), 11)
+    refuse_if(len(starts) != len(plan.axes) or plan.family == SOBOL and len(set(starts)) > 1, 17)
+
+
+def run_point(plan, starts, step):
+    """The point of a step, the first being number 0: each axis reads its own index, its start plus the step's number."""
+    return tuple(numerator(plan.family, axis, start + step) for axis, start in zip(plan.axes, starts))
+
+
 def next_sobol_point(plan, index, here):
     """The point after that of `index`: xor v_c, c the place of the rightmost zero bit of `index`."""
     c = 1
@@ -206,13 +228,14 @@ def next_sobol_point(plan, index, here):
 
 
 @lru_cache(maxsize=4)
-def run_points(plan, start, count):
-    """The points of a run: Halton's one by one, Sobol's by the stepping rule from the first."""
+def run_points(plan, starts, first, count):
+    """The points of so many steps from step `first` on: Halton's one by one, Sobol's by the stepping rule, since its axes share one start."""
+    steps = range(first, first + count)
     if plan.family != SOBOL:
-        return [point(plan, index) for index in range(start, start + count)]
+        return [run_point(plan, starts, step) for step in steps]
     points = []
-    for index in range(start, start + count):
-        points.append(next_sobol_point(plan, index - 1, points[-1]) if points else point(plan, index))
+    for step in steps:
+        points.append(next_sobol_point(plan, starts[0] + step - 1, points[-1]) if points else run_point(plan, starts, step))
     return points
 
 
@@ -242,8 +265,8 @@ def inside(plan, points, cuts):
     return sum(all(x * q < limit for x, (q, limit) in zip(here, tests)) for here in points)
 
 
-def count_inside(plan, start, count, cuts):
-    return inside(plan, run_points(plan, start, count), cuts)
+def count_inside(plan, starts, count, cuts):
+    return inside(plan, run_points(plan, starts, 0, count), cuts)
 
 
 # ---- counting by strips, on the Halton families
@@ -275,11 +298,11 @@ def common(one, other):
     return m * n, x + m * ((y - x) * inverse(m, n) % n)
 
 
-def count_by_strips(plan, start, count, cuts):
+def count_by_strips(plan, starts, count, cuts):
     """The same count over the combinations of a strip of each axis: how many steps below `count` each has. A combination without one is dropped
     as soon as it is known, since the class of more axes starts no earlier."""
     classes = [(1, 0)]
-    for base, cut in zip(plan.axes, cuts):
+    for base, start, cut in zip(plan.axes, starts, cuts):
         steps = [(m, (residue - start) % m) for m, residue in strips(base, images(plan.family, base), cut)]
         both = (common(known, strip) for known in classes for strip in steps)
         classes = [(m, first) for m, first in both if first < count]
@@ -308,7 +331,7 @@ def read_window(plan, window):
 
 def day_points(plan, first, count):
     """The points numbered from `first` on: the numerator n, whose denominator is N, then those of the plan."""
-    return [(n, *here) for n, here in enumerate(run_points(plan, first, count), first)]
+    return [(n, *here) for n, here in enumerate(run_points(plan, one_start(plan, 0), first, count), first)]
 
 
 def day_count_inside(plan, size, cuts):
@@ -342,9 +365,10 @@ def point_call(data, index, room):
 def count_call(data, start, count, window, room):
     try:
         plan = read(data)
-        refuse_if(start + count > INDEXES, 11)
+        starts = one_start(plan, start)
+        refuse_run(plan, starts, count)
         cuts = read_window(plan, window)
         refuse_if(room < 16, 13)
-        return 0, written((count_inside(plan, start, count, cuts), bound(plan, count)))
+        return 0, written((count_inside(plan, starts, count, cuts), bound(plan, count)))
     except Refused as refusal:
         return refusal.number, b""

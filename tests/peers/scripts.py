@@ -1,5 +1,6 @@
 """Random scripts for the console: plans of all families, valid and slightly wrong, and every line, with what the reference answers."""
 import plans
+import reference
 import states
 import windows
 from console import Console
@@ -8,24 +9,28 @@ from states import DaySet, Run
 
 
 def script(rng, parts):
-    """The lines of so many parts, and what each answers. The reference goes along, so that the lines suit its state."""
-    console, lines, answers = Console(), [], []
+    """The lines of so many parts, what each answers, and whether the state's starts are unequal then. The reference goes along, so that the lines
+    suit its state."""
+    console, lines, answers, unequal = Console(), [], [], []
     for _ in range(parts):
         for line in part(rng, console):
             lines.append(line)
             answers.append(console.answer(line))
-    return lines, answers
+            unequal.append(states.is_unequal(console.held[Run]))
+    return lines, answers, unequal
 
 
 def part(rng, console):
-    """A plan, a run of it, and calls on them; in some parts a day set is made, or a word of the state is set, between them."""
+    """A plan, a run of it, and calls on them; in some parts a day set is made, or words of the state are set, between them."""
     data = plans.valid(rng) if rng.random() < 0.7 else plans.random_string(rng)
     yield text("read", data.hex() if rng.random() < 0.5 else data.hex().upper())
-    yield opening(rng)
+    yield opening(rng, console)
     for _ in range(rng.randint(0, 3)):
         yield call(rng, console)
     if rng.random() < 0.5:
         yield from day_part(rng, console)
+    if rng.random() < 0.2:
+        yield from pokes(rng, console, Run, "poke")
     if rng.random() < 0.3:
         yield poke(rng, console, Run, "poke")
     for _ in range(rng.randint(1, 9)):
@@ -43,8 +48,8 @@ def day_part(rng, console):
         yield day_call(rng, console)
     if rng.random() < 0.2:
         yield poke(rng, console, DaySet, "daypoke")
-    if rng.random() < 0.1:
-        yield from start_pokes(rng, console)
+    if rng.random() < 0.2:
+        yield from pokes(rng, console, DaySet, "daypoke")
     for _ in range(rng.randint(1, 6)):
         yield day_call(rng, console)
     if rng.random() < 0.2:
@@ -56,18 +61,71 @@ def text(*words):
     return " ".join(map(str, words)).encode()
 
 
-def opening(rng):
-    """A short run anywhere, one about the last index, one that is counted by strips, a long one, or one that is too long."""
-    count = rng.choice((rng.randint(0, 9), rng.randint(0, 300), rng.randint(0, 3), rng.randint(8192, 20000)))
-    start, long = rng.choice((0, plans.random_index(rng), 2**32 - count)), rng.choice((2**31, 2**32, 2**32 - 5))
-    wrong_start, wrong_count = windows.wrong_run(rng)
-    run = rng.choice(((count, min(start, 2**32 - count)),) * 6 + ((long, 2**32 - long), (wrong_count, wrong_start)))
-    return text("open", *run)
+def genuine(console, kind):
+    """The state's run or the day set, or None where it is foreign."""
+    try:
+        return kind(console.held[kind])
+    except Refused:
+        return None
+
+
+def plan_held(rng, console, kind):
+    """Its plan, or any where it is foreign."""
+    held = genuine(console, kind)
+    return held.plan if held else plans.random_plan(rng)
 
 
 def call(rng, console):
-    kind = rng.choice((jump, jump, step, step, step, block, second, slot, slot, count, strips, write, opening_again, wrong_line, day_call))
+    kind = rng.choice((jump, jump, step, step, step, block, second, slot, slot, count, strips, write, opening, wrong_line, day_call))
     return kind(rng, console)
+
+
+# ---- openings
+
+
+def opening(rng, console):
+    """A short run anywhere, one about the last index, one that is counted by strips, a long one, or one that may be refused."""
+    short, long = (rng.randint(0, 9), rng.randint(0, 300), rng.randint(0, 3), rng.randint(8192, 20000)), (2**31, 2**32, 2**32 - 5)
+    count = rng.choice(short * 2 + (rng.choice(long),))
+    starts = plans.random_starts(rng, plan_held(rng, console, Run), count)
+    if rng.random() < 0.3:
+        count, starts = rng.choice((beyond, beside, missing, surplus, none))(rng, count, starts)
+    return text("open", count, *starts)
+
+
+def put(rng, starts, start):
+    """The starts with another one at some place, or behind them."""
+    place = rng.randint(0, len(starts))
+    return starts[:place] + (start,) + starts[place + 1 :]
+
+
+def beyond(rng, count, starts):
+    """A start about the end of its range or beyond, or a count that is too large for all."""
+    start, count = windows.wrong_run(rng)
+    return count, put(rng, starts, start)
+
+
+def beside(rng, count, starts):
+    """A start next to another, which no Sobol axis may have."""
+    return count, put(rng, starts, abs(rng.choice(starts) - 1))
+
+
+def missing(rng, count, starts):
+    return count, starts[: rng.randrange(len(starts))]
+
+
+def surplus(rng, count, starts):
+    """More starts than axes; those behind may be out of range, and 11 then comes before 17."""
+    start = rng.choice((0, 0, 2**32 - count, 2**32 - count + 1, 2**64 - 1))
+    return count, starts + (start,) * rng.choice((1, 1, 5, 400))
+
+
+def none(rng, count, starts):
+    """No start at all, which 17 refuses for any count."""
+    return rng.choice((count, 0, 2**32 + 1, 2**64 - 1)), ()
+
+
+# ---- the calls on the state
 
 
 def room(rng):
@@ -110,10 +168,6 @@ def reading(rng, console):
     return text("read", plans.valid(rng).hex())
 
 
-def opening_again(rng, console):
-    return opening(rng)
-
-
 def count(rng, console):
     return count_line(rng, console, "count", 2**20)
 
@@ -131,14 +185,13 @@ def both_counts(rng, console):
 
 def count_line(rng, console, name, most):
     """A window over a run of so many points at most, which the reference counts soon; else one that any state refuses."""
-    try:
-        run = Run(console.held[Run])
-    except Refused:
+    run = genuine(console, Run)
+    if run is None:
         return foreign_count(rng, name)
     if run.count <= states.LONG:
-        return window_line(rng, name, windows.random_cuts(rng, run.plan, run.start, run.count))
+        return window_line(rng, name, windows.random_cuts(rng, run.plan, run.starts, run.count))
     if run.count <= most and states.is_long(run.plan, run.count):
-        return window_line(rng, name, windows.strip_cuts(rng, run.plan, run.start, run.count, 3000))
+        return window_line(rng, name, windows.strip_cuts(rng, run.plan, run.starts, run.count, 3000))
     return text(name, *([1, 2] * run.width + [1]))
 
 
@@ -156,13 +209,29 @@ def window_line(rng, name, cuts):
     return text(name, *window)
 
 
+# ---- words that are set
+
+
 def poke(rng, console, kind, name):
     """Sets a word to what it is, to its neighbour's value, beside it, or to anything."""
-    place = rng.choice((rng.randrange(215), rng.randrange(14), rng.randrange(206, 215), rng.randrange(14, 46)))
+    every, first, last = range(states.WORDS), range(14), range(states.STARTS, states.WORDS)
+    place = rng.choice(rng.choice((every, first, last, range(14, 46))))
     words = console.held[kind]
     word = words[place]
     values = (word, words[place - 1], (word + 1) % 2**64, max(word - 1, 0), word ^ 1 << rng.randrange(64), 0, rng.randrange(2**64))
     return text(name, place, rng.choice(values))
+
+
+def pokes(rng, console, kind, name):
+    """Makes what is held, word by word, the state of another run, of its plan or of any, in some with one more start put on an axis or behind the
+    last: calls may leave it, or it is foreign."""
+    plan = plan_held(rng, console, kind) if rng.random() < 0.7 else plans.random_plan(rng)
+    count = rng.choice((0, rng.randint(1, 9), rng.randint(1, 300)))
+    starts = reference.one_start(plan, 0) if kind is DaySet else plans.random_starts(rng, plan, count)
+    if rng.random() < 0.5:
+        starts = put(rng, starts, rng.choice((starts[0] + 1, 2**32 - count, 2**32 - count + 1, rng.randrange(2**64))))[:6]
+    words = states.made(plan, starts, count, rng.choice((0, count, rng.randint(0, count))))
+    yield from (text(name, place, word) for place, word in enumerate(words) if word != console.held[kind][place])
 
 
 # ---- the day set
@@ -198,39 +267,28 @@ def day_block(rng, console):
 
 
 def day_count(rng, console):
-    try:
-        day_set = DaySet(console.held[DaySet])
-    except Refused:
+    day_set = genuine(console, DaySet)
+    if day_set is None:
         return foreign_count(rng, "daycount")
     if states.is_long(day_set.plan, day_set.count) and rng.random() < 0.5:
-        cuts = [(rng.randint(0, 2**24), 2**24)] + windows.strip_cuts(rng, day_set.plan, 0, day_set.count, 3000)
+        cuts = [(rng.randint(0, 2**24), 2**24)] + windows.strip_cuts(rng, day_set.plan, day_set.starts, day_set.count, 3000)
     else:
         cuts = windows.random_day_cuts(rng, day_set.plan, day_set.count)
     return window_line(rng, "daycount", cuts)
-
-
-def start_pokes(rng, console):
-    """Makes the day set, word by word, the state of a run that does not start at 0."""
-    words = console.held[DaySet]
-    try:
-        day_set = DaySet(words)
-    except Refused:
-        return
-    run = states.made(day_set.plan, rng.randint(1, 9), day_set.count, day_set.taken)
-    yield from (text("daypoke", place, word) for place, word in enumerate(run) if word != words[place])
 
 
 # ---- lines in error
 
 
 def wrong_line(rng, console):
-    """A line with a byte changed, cut or put in, or one in which all is well: a comment, blanks."""
+    """A line with a byte changed, cut or put in, or cut off, or one in which all is well: a comment, blanks."""
     line = bytearray(call_line(rng, console))
     place = rng.randrange(len(line))
-    line[place : place + rng.randint(0, 1)] = rng.choice((b"", b"#", b" ", b"\t", b"x", b"9", b"\r", b"\xff", b"\0"))
+    end = rng.choice((place, place, place + 1, place + 1, len(line)))
+    line[place:end] = rng.choice((b"", b"#", b" ", b"\t", b"x", b"9", b"\r", b"\xff", b"\0"))
     return bytes(line)
 
 
 def call_line(rng, console):
     """A call whose numbers may grow a digit and still be answered in no time."""
-    return rng.choice((reading, jump, step, second, slot, write, making, day_jump, day_step))(rng, console)
+    return rng.choice((reading, opening, jump, step, second, slot, write, making, day_jump, day_step))(rng, console)

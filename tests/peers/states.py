@@ -1,16 +1,16 @@
-"""The words of a sampler's state, in the struct's order: family, axes, 6 bases, 6 polynomials, 32 direction numbers for each of 6 axes, start,
-count, taken, and the 6 numerators of the next point. Which are there is read off 01 and the struct's comment; it shares nothing with the crates.
-A day set has the words of a state whose run has start 0 and the set's size as its count."""
+"""The words of a sampler's state, in the struct's order: family, axes, 6 bases, 6 polynomials, 32 direction numbers for each of 6 axes, 6 starts,
+count, taken, and the 6 numerators of the next point. Which are there is read off 01, K6 and the struct's comment; it shares nothing with the crates.
+A day set has the words of a state whose run has start 0 on every axis and the set's size as its count."""
 from functools import lru_cache
 
 import plans
 import reference
 from reference import FAMILIES, INDEXES, SOBOL, Axis, Plan, Refused
 
-WORDS = 215
+WORDS = 220
 LONG = 400  # points
 BLANK = (0,) * WORDS
-RUN = 206  # where start, count and taken are
+STARTS, COUNT, TAKEN = 206, 212, 213  # where they are
 
 
 def padded(words, length):
@@ -22,19 +22,25 @@ def polynomial(axis):
     return int("1" + "".join(map(str, axis.coefficients)) + "1", 2) if axis.degree else 1
 
 
-def made(plan, start, count, taken):
+def made(plan, starts, count, taken):
     """The state of a plan and a run, so many of whose points are taken."""
     is_sobol = plan.family == SOBOL
     bases = () if is_sobol else plan.axes
     polynomials = [polynomial(axis) for axis in plan.axes] if is_sobol else ()
     directions = [v for axis in plan.axes for v in reference.direction_numbers(axis)] if is_sobol else ()
-    numerators = reference.point(plan, start + taken) if taken < count else ()
+    numerators = reference.run_point(plan, starts, taken) if taken < count else ()
     head = (plan.family, len(plan.axes)) + padded(bases, 6) + padded(polynomials, 6) + padded(directions, 192)
-    return head + (start, count, taken) + padded(numerators, 6)
+    return head + padded(starts, 6) + (count, taken) + padded(numerators, 6)
 
 
 def run_in(words):
-    return words[RUN : RUN + 3]
+    """The starts of the axes that a state's words claim to have, the count and how many points are taken."""
+    return words[STARTS:COUNT][: words[1]], words[COUNT], words[TAKEN]
+
+
+def is_unequal(words):
+    """Whether these starts are not all the same."""
+    return len(set(run_in(words)[0])) > 1
 
 
 def plan_in(words):
@@ -58,12 +64,13 @@ def sobol_axis(words, i):
 @lru_cache(maxsize=16)
 def genuine_plan(words):
     """The plan of a state that accepted calls leave; any other state is refused by 15."""
-    start, count, taken = run_in(words)
+    starts, count, taken = run_in(words)
     try:
         plan = plan_in(words)
+        reference.refuse_run(plan, starts, count)
     except Refused:
         raise Refused(15) from None
-    reference.refuse_if(start + count > INDEXES or taken > count or made(plan, start, count, taken) != words, 15)
+    reference.refuse_if(taken > count or made(plan, starts, count, taken) != words, 15)
     return plan
 
 
@@ -77,22 +84,26 @@ class Run:
 
     def __init__(self, words):
         self.plan = genuine_plan(words)
-        self.start, self.count, self.taken = run_in(words)
+        self.starts, self.count, self.taken = run_in(words)
         self.width = len(self.plan.axes)
         self.indexes = INDEXES  # a jump is to an index below this
 
+    def point(self, index):
+        """The point that a jump is to."""
+        return reference.point(self.plan, index)
+
     def points(self, first, count):
-        """The points of the indexes from `first` on."""
-        return reference.run_points(self.plan, first, count)
+        """The points of the steps from `first` on."""
+        return reference.run_points(self.plan, self.starts, first, count)
 
     def counted(self, cuts):
         """How many points are inside, and the bound."""
         count = reference.count_by_strips if is_long(self.plan, self.count) else reference.count_inside
-        return count(self.plan, self.start, self.count, cuts), reference.bound(self.plan, self.count)
+        return count(self.plan, self.starts, self.count, cuts), reference.bound(self.plan, self.count)
 
     def moved(self, k):
         """The words after so many points more."""
-        return made(self.plan, self.start, self.count, self.taken + k)
+        return made(self.plan, self.starts, self.count, self.taken + k)
 
 
 class DaySet(Run):
@@ -100,9 +111,12 @@ class DaySet(Run):
 
     def __init__(self, words):
         super().__init__(words)
-        reference.refuse_if(self.start != 0, 15)
+        reference.refuse_if(any(self.starts), 15)
         self.width += 1
         self.indexes = self.count
+
+    def point(self, index):
+        return self.points(index, 1)[0]
 
     def points(self, first, count):
         return reference.day_points(self.plan, first, count)
@@ -111,7 +125,7 @@ class DaySet(Run):
         u, q = cuts[0]
         led = -(-u * self.count // q)
         if is_long(self.plan, led):
-            inside = reference.count_by_strips(self.plan, 0, led, cuts[1:])
+            inside = reference.count_by_strips(self.plan, self.starts, led, cuts[1:])
         else:
             inside = reference.day_count_inside(self.plan, self.count, cuts)
         return inside, reference.day_bound(self.plan, self.count)

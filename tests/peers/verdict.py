@@ -1,4 +1,7 @@
 """When two answers disagree."""
+from fractions import Fraction
+from math import prod
+
 from library import buffer_after, numbers
 
 
@@ -10,6 +13,12 @@ def agree(question, ours, theirs):
     """Compares what the reference has with what it should have."""
     if ours != theirs:
         raise Disagreement(f"{question}: the reference has {ours} and not {theirs}")
+
+
+def near(question, inside, count, cuts, bound):
+    """Holds a count to demand 3: it is less than the bound away from N times the window's volume."""
+    if not abs(inside - count * prod(Fraction(*cut) for cut in cuts)) < bound:
+        raise Disagreement(f"{question}: {inside} inside is not within {bound} of N times the volume")
 
 
 def same_answer(question, ours, peer, theirs):

@@ -19,17 +19,21 @@ def questions(rng):
     """Runs of every length with several windows each, some of them refused."""
     lengths = [rng.randint(0, 300) for _ in range(560)] + [rng.randint(0, 4) for _ in range(60)] + [rng.randint(2000, 9000) for _ in range(14)]
     for count in lengths:
-        plan = plans.random_plan(rng)
-        start = rng.choice((0, plans.random_index(rng), 2**32 - count))
-        start = min(start, 2**32 - count)
+        plan, start = plans.random_plan(rng), plans.random_start(rng, count)
         for _ in range(8):
-            yield plans.bytes_of(plan), start, count, window_bytes(random_cuts(rng, plan, start, count)), rng.choice((16, 16, 64))
+            yield plans.bytes_of(plan), start, count, random_window(rng, plan, start, count), rng.choice((16, 16, 64))
         for _ in range(3):
             yield refused(rng, plan, start, min(count, 300))
 
 
-def random_cuts(rng, plan, start, count):
-    here = reference.point(plan, rng.randrange(start, start + count)) if count > 0 else (0,) * len(plan.axes)
+def random_window(rng, plan, start, count):
+    """The bytes of a window over a run with one start."""
+    return window_bytes(random_cuts(rng, plan, reference.one_start(plan, start), count))
+
+
+def random_cuts(rng, plan, starts, count):
+    """Cuts about a point of the run."""
+    here = reference.run_point(plan, starts, rng.randrange(count)) if count > 0 else (0,) * len(plan.axes)
     bases = [2] * len(plan.axes) if plan.family == SOBOL else plan.axes
     return [random_cut(rng, *axis) for axis in zip(bases, reference.denominators(plan), here)]
 
@@ -42,12 +46,12 @@ def random_day_cuts(rng, plan, size):
     else:
         q = rng.choice((rng.randint(1, 2**24), 2**24))
         leading = rng.randint(0, few * q // size), q
-    return [leading] + random_cuts(rng, plan, 0, few)
+    return [leading] + random_cuts(rng, plan, reference.one_start(plan, 0), few)
 
 
-def strip_cuts(rng, plan, start, count, most):
+def strip_cuts(rng, plan, starts, count, most):
     """Cuts with so many combinations of strips at most: the axes with the most strips get cuts of few digits."""
-    cuts = random_cuts(rng, plan, start, count)
+    cuts = random_cuts(rng, plan, starts, count)
     while True:
         numbers = [len(reference.strips(base, reference.images(plan.family, base), cut)) for base, cut in zip(plan.axes, cuts)]
         if prod(max(number, 1) for number in numbers) <= most:
@@ -68,7 +72,7 @@ def random_cut(rng, base, denominator, x):
 
 def refused(rng, plan, start, count):
     """A question with one or two things wrong, or with none by chance."""
-    data, window, room = plans.bytes_of(plan), window_bytes(random_cuts(rng, plan, start, count)), 16
+    data, window, room = plans.bytes_of(plan), random_window(rng, plan, start, count), 16
     for wrong in rng.sample(("plan", "run", "window", "room"), rng.randint(1, 2)):
         if wrong == "plan":
             data = plans.cut(rng)

@@ -45,14 +45,16 @@ fn fill_rows(
     out: &mut [u64],
     lead: usize,
 )
-    requires { ⌜ Arrays family axes (now bases) (now directions) × (lead ≤ 1) × Within (now ns) hi × (lo ≤ hi) × (hi * (lead + axes) ≤ length (now out)) ⌝ }
+    requires { ⌜ Arrays family axes (now bases) (now directions) × (lead ≤ 1) × Within (now ns) hi
+        × (lo ≤ hi) × (hi * (lead + axes) ≤ length (now out)) ⌝ }
     ensures { λ r. ⌜ Columns (numeratorsFrom family (now (bases .entry)) (now (directions .entry)) (ofAxis (now (ns .entry))))
         lo hi (lead + axes) lead axes (now (out .entry)) (now (out .exit)) ⌝ }
 {
     let s = lead + axes;
     let mut i = 0;
     while i < axes {
-        fill_column(family, bases, directions, i, ns[i], lo, hi, s, lead + i, out);
+        let n = ns[i];
+        fill_column(family, bases, directions, i, n, lo, hi, s, lead + i, out);
         i += 1;
     }
 }
@@ -100,7 +102,8 @@ fn table_rows(
     lead: usize,
 )
     requires { ⌜ (axes ≤ 6) × (length (now bases) ≡ 6) × (length (now sizes) ≡ 6) × (length (now images) ≡ 1536) × (length (now tables) ≡ 1536) ⌝ }
-    requires { ⌜ AllReady axes (now bases) (now sizes) (now images) (now tables) × (lead ≤ 1) × Within (now ns) hi × (lo ≤ hi) × (hi * (lead + axes) ≤ length (now out)) ⌝ }
+    requires { ⌜ AllReady axes (now bases) (now sizes) (now images) (now tables) × (lead ≤ 1) × Within (now ns) hi
+        × (lo ≤ hi) × (hi * (lead + axes) ≤ length (now out)) ⌝ }
     ensures { λ r. ⌜ Columns (tabledAt (now (bases .entry)) (now (images .entry)) (ofAxis (now (ns .entry))))
         lo hi (lead + axes) lead axes (now (out .entry)) (now (out .exit)) ⌝ }
 {
@@ -159,7 +162,8 @@ fn fill_by_tables(
     ns: &[u64],
     k: usize,
 )
-    requires { ⌜ Arrays family axes (now bases) (now directions) × (lead ≤ 1) × Within (now ns) k × (k * (lead + axes) ≤ length (now out)) × (family ≡ 2 → ⊥) ⌝ }
+    requires { ⌜ Arrays family axes (now bases) (now directions) × (lead ≤ 1) × Within (now ns) k × (k * (lead + axes) ≤ length (now out))
+        × (family ≡ 2 → ⊥) ⌝ }
     ensures { λ r. ⌜ Columns (numeratorsFrom family (now (bases .entry)) (now (directions .entry)) (ofAxis (now (ns .entry))))
         0 k (lead + axes) lead axes (now (out .entry)) (now (out .exit)) ⌝ }
 {

@@ -7,7 +7,7 @@ use lib.Dec.{ltb, leb}
 use borrow.Author.Tests.{lt-ltb, le-ltb, le-leb, lt-leb, leb-false, ltb-false, not-false}
 use Rattle.plan.specs.Order.{firstDue}
 use Rattle.plan.proofs.OrderLaws.{none-due}
-use Rattle.points.specs.Run.{Run, inRange}
+use Rattle.points.specs.Run.{startInRange}
 use Rattle.c_refusals.specs.Refusals.{pointRefusals, countRefusals}
 
 -- ---- when a point is turned down
@@ -34,28 +34,28 @@ module _ (index s room : ℕ) where
 
 -- ---- when a count is turned down
 
-module _ (r : Run) (w : Bool) (room : ℕ) where
-  pub count-out : inRange r ≡ false → 11 ≡ firstDue (countRefusals r w room)
+module _ (start count : ℕ) (w : Bool) (room : ℕ) where
+  pub count-out : startInRange start count ≡ false → 11 ≡ firstDue (countRefusals start count w room)
   unfolding firstDue
   count-out h = rw h refl
 
-  module _ (h : inRange r ≡ true) where
-    pub count-off : w ≡ false → 14 ≡ firstDue (countRefusals r w room)
+  module _ (h : startInRange start count ≡ true) where
+    pub count-off : w ≡ false → 14 ≡ firstDue (countRefusals start count w room)
     unfolding firstDue
     count-off f = rw (h, f) refl
 
     module _ (t : w ≡ true) where
-      pub count-no-room : room < 16 → 13 ≡ firstDue (countRefusals r w room)
+      pub count-no-room : room < 16 → 13 ≡ firstDue (countRefusals start count w room)
       unfolding firstDue
       count-no-room l = rw (h, t, lt-ltb room 16 l) refl
 
-      pub count-none : 16 ≤ room → 0 ≡ firstDue (countRefusals r w room)
+      pub count-none : 16 ≤ room → 0 ≡ firstDue (countRefusals start count w room)
       unfolding firstDue
       count-none l = rw (h, t, le-ltb room 16 l) refl
 
   -- it is not: each test passes
-  pub count-zero : firstDue (countRefusals r w room) ≡ 0 → (inRange r ≡ true) × (w ≡ true) × (16 ≤ room)
+  pub count-zero : firstDue (countRefusals start count w room) ≡ 0 → (startInRange start count ≡ true) × (w ≡ true) × (16 ≤ room)
   count-zero z =
-      let a = none-due 10 (not (inRange r)) _ z in
+      let a = none-due 10 (not (startInRange start count)) _ z in
       let b = none-due 13 (not w) _ (a .1) in
-      (not-false (inRange r) (a .0), not-false w (b .0), ltb-false room 16 (none-due 12 (ltb room 16) [] (b .1) .0))
+      (not-false (startInRange start count) (a .0), not-false w (b .0), ltb-false room 16 (none-due 12 (ltb room 16) [] (b .1) .0))

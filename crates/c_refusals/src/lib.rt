@@ -3,7 +3,6 @@ use plan::refusal;
 ghost use mathlib.Core.Path.{_≡_};
 ghost use Prim.Native.Nat.{_≤_};
 ghost use Rattle.plan.specs.Order.{firstDue};
-ghost use Rattle.points.specs.Run.{runOf};
 ghost use Rattle.c_refusals.specs.Refusals.{pointRefusals, countRefusals};
 
 // The number by which a point of an accepted plan is turned down, or 0: `room` is the length of the buffer.
@@ -23,7 +22,7 @@ pub fn point_refusal(index: u64, axes: usize, room: usize) -> u64
 // The number by which a count of an accepted plan is turned down, or 0: `window` says whether the window is one, `room` is the length of the
 // buffer.
 pub fn count_refusal(start: u64, count: u64, window: bool, room: usize) -> u64
-    ensures { λ r. ⌜ r ≡ firstDue (countRefusals (runOf start count) window room) ⌝ }
+    ensures { λ r. ⌜ r ≡ firstDue (countRefusals start count window room) ⌝ }
 {
     if !points::in_range(start, count) {
         refusal::OUT_OF_RANGE

@@ -9,7 +9,7 @@ use Rattle.plan.specs.Plan.{Plan}
 use Rattle.plan.specs.Reading.{Reading, refused, accepted, readPlan}
 use Rattle.plan.specs.Order.{Condition, firstDue, unlessDue}
 use Rattle.points.specs.Point.{axisCount, pointOf}
-use Rattle.points.specs.Run.{Run}
+use Rattle.points.specs.Run.{oneStart}
 use Rattle.window.specs.Counting.{insideCount, boundOf, cutsOf, isWindow}
 use Rattle.c_refusals.specs.Refusals.{pointRefusals, countRefusals}
 use Rattle.big_endian.specs.Bytes.{wordBytes, windowIn}
@@ -41,24 +41,26 @@ pointBytes plan index out = pointBytesBy (readPlan plan) index out
 unfoldable pub isWindowBytes : List ℕ → ℕ → Bool
 isWindowBytes window s = eqb (length window) (8 * s) && isWindow (windowIn window s) s
 
-abbrev pub countOrder : Plan → Run → List ℕ → List ℕ → List Condition
-countOrder p r window out = countRefusals r (isWindowBytes window (axisCount p)) (length out)
+abbrev pub countOrder : Plan → ℕ → ℕ → List ℕ → List ℕ → List Condition
+countOrder p start count window out = countRefusals start count (isWindowBytes window (axisCount p)) (length out)
 
--- S and the bound
-unfoldable pub answersOf : Plan → Run → List ℕ → List ℕ
-answersOf p r window = insideCount p (cutsOf (windowIn window (axisCount p)) (axisCount p)) r ∷ boundOf p (r .count) ∷ []
+-- S and the bound of the run with one start for all axes
+unfoldable pub answersOf : Plan → ℕ → ℕ → List ℕ → List ℕ
+answersOf p start count window =
+    insideCount p (cutsOf (windowIn window (axisCount p)) (axisCount p)) (oneStart p start count) ∷ boundOf p count ∷ []
 
-unfoldable pub countCodeBy : Reading → Run → List ℕ → List ℕ → ℕ
-countCodeBy (refused n) r window out = n
-countCodeBy (accepted p) r window out = firstDue (countOrder p r window out)
+unfoldable pub countCodeBy : Reading → ℕ → ℕ → List ℕ → List ℕ → ℕ
+countCodeBy (refused n) start count window out = n
+countCodeBy (accepted p) start count window out = firstDue (countOrder p start count window out)
 
-unfoldable pub countCode : List ℕ → Run → List ℕ → List ℕ → ℕ
-countCode plan r window out = countCodeBy (readPlan plan) r window out
+unfoldable pub countCode : List ℕ → ℕ → ℕ → List ℕ → List ℕ → ℕ
+countCode plan start count window out = countCodeBy (readPlan plan) start count window out
 
 -- they stand in front of what lay behind them
-unfoldable pub countBytesBy : Reading → Run → List ℕ → List ℕ → List ℕ
-countBytesBy (refused n) r window out = out
-countBytesBy (accepted p) r window out = unlessDue (countOrder p r window out) (wordBytes (answersOf p r window) ++ drop 16 out) out
+unfoldable pub countBytesBy : Reading → ℕ → ℕ → List ℕ → List ℕ → List ℕ
+countBytesBy (refused n) start count window out = out
+countBytesBy (accepted p) start count window out =
+    unlessDue (countOrder p start count window out) (wordBytes (answersOf p start count window) ++ drop 16 out) out
 
-unfoldable pub countBytes : List ℕ → Run → List ℕ → List ℕ → List ℕ
-countBytes plan r window out = countBytesBy (readPlan plan) r window out
+unfoldable pub countBytes : List ℕ → ℕ → ℕ → List ℕ → List ℕ → List ℕ
+countBytes plan start count window out = countBytesBy (readPlan plan) start count window out

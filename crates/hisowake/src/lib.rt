@@ -7,7 +7,7 @@ ghost use Prim.Native.Nat.{_*_, _^_, _<_, _≤_};
 ghost use lib.ListN.{length, drop};
 ghost use Rattle.plan.specs.Answer.{planAnswered, Accepted};
 ghost use Rattle.points.specs.Point.{pointOf};
-ghost use Rattle.points.specs.Run.{runOf, inRange};
+ghost use Rattle.points.specs.Run.{startInRange};
 ghost use Rattle.big_endian.specs.Bytes.{wordBytes};
 ghost use Rattle.hisowake.specs.Calls.{pointCode, pointBytes, isWindowBytes, answersOf, countCode, countBytes};
 
@@ -19,7 +19,8 @@ fn put_point(out: &mut [u8], a: PlanRead, n: u64)
     let axes = a.axes;
     let bases = a.bases;
     let directions = state::plan_directions(a);
-    let x = points::point(a.family, axes, &bases, &directions, n);
+    let ns = [n; 6];
+    let x = points::point(a.family, axes, &bases, &directions, &ns);
     big_endian::put_words(out, &x[..axes]);
 }
 
@@ -55,20 +56,21 @@ fn is_window_bytes(bytes: &[u8], axes: usize) -> bool
 
 // Writes S and the bound of a run of a plan that the reader accepted.
 fn put_count(out: &mut [u8], a: PlanRead, start: u64, count: u64, window: &[u8])
-    requires { ⌜ Accepted a × (inRange (runOf start count) ≡ true) × (isWindowBytes (now window) (a .axes) ≡ true) × (16 ≤ length (now out)) ⌝ }
-    ensures { λ r. ⌜ now (out .exit) ≡ wordBytes (answersOf (planAnswered a) (runOf start count) (now (window .entry))) ++ drop 16 (now (out .entry)) ⌝ }
+    requires { ⌜ Accepted a × (startInRange start count ≡ true) × (isWindowBytes (now window) (a .axes) ≡ true) × (16 ≤ length (now out)) ⌝ }
+    ensures { λ r. ⌜ now (out .exit) ≡ wordBytes (answersOf (planAnswered a) start count (now (window .entry))) ++ drop 16 (now (out .entry)) ⌝ }
 {
     let axes = a.axes;
     let bases = a.bases;
     let directions = state::plan_directions(a);
     let w = big_endian::window_numbers(window, axes);
     let end = 2 * axes;
+    let ns = [start; 6];
     let inside = inside_count::count_inside(
         a.family,
         axes,
         &bases,
         &directions,
-        start,
+        &ns,
         count as usize,
         &w[..end],
     );
@@ -86,7 +88,7 @@ pub extern "C" fn hisowake_window_count(
     window: &[u8],
     out: &mut [u8],
 ) -> u64
-    ensures { λ r. ⌜ (r ≡ countCode (now (plan .entry)) (runOf start count) (now (window .entry)) (now (out .entry))) × (now (out .exit) ≡ countBytes (now (plan .entry)) (runOf start count) (now (window .entry)) (now (out .entry))) ⌝ }
+    ensures { λ r. ⌜ (r ≡ countCode (now (plan .entry)) start count (now (window .entry)) (now (out .entry))) × (now (out .exit) ≡ countBytes (now (plan .entry)) start count (now (window .entry)) (now (out .entry))) ⌝ }
 {
     let a = reader::read_plan(plan);
     if a.code != 0 {

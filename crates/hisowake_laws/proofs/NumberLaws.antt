@@ -6,7 +6,6 @@ use native.Mathlib.Omega.{arith}
 use Rattle.plan.specs.Reading.{Reading, refused, accepted, readPlan}
 use Rattle.plan.proofs.OrderLaws.{other-due, none-given}
 use Rattle.plan.proofs.RefusalLaws.{refused-range}
-use Rattle.points.specs.Run.{Run}
 use Rattle.hisowake.specs.Calls.{pointCodeBy, pointCode, countCodeBy, countCode}
 
 module _ (plan out : List ℕ) where
@@ -18,9 +17,9 @@ module _ (plan out : List ℕ) where
       go (refused n) e = refused-range plan n e .2 (rw e at z)
       go (accepted p) e = other-due _ _ _ 2 (omega arith) (other-due _ _ _ 2 (omega arith) (none-given 2 (omega arith))) (rw e at z)
 
-  pub count-never-two : (r : Run) (window : List ℕ) → countCode plan r window out ≡ 2 → ⊥
+  pub count-never-two : (start many : ℕ) (window : List ℕ) → countCode plan start many window out ≡ 2 → ⊥
   unfolding countCode countCodeBy
-  count-never-two r window z = go (readPlan plan) refl
+  count-never-two start many window z = go (readPlan plan) refl
     where
       go : (a : Reading) → readPlan plan ≡ a → ⊥
       go (refused n) e = refused-range plan n e .2 (rw e at z)

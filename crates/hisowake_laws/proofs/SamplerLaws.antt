@@ -15,8 +15,7 @@ use Rattle.plan.proofs.AcceptLaws.{accepted-iff}
 use Rattle.plan.proofs.RefusalLaws.{refused-range}
 use Rattle.points.specs.Point.{axisCount, pointOf}
 use Rattle.plan.specs.Order.{firstDue, unlessNumber}
-use Rattle.points.specs.Run.{runOf}
-use Rattle.points.proofs.RunLaws.{is-range}
+use Rattle.points.specs.Run.{oneStart}
 use Rattle.state.specs.State.{made, blank, genuine}
 use Rattle.state.specs.declared.Sampler.{Sampler}
 use Rattle.state.proofs.PlanLaws.{plan-in-made}
@@ -25,6 +24,7 @@ use Rattle.state.proofs.StateLaws.{blank-foreign}
 use Rattle.calls.specs.Calls.{readState, readSpec, jumpSpec, jumpBuf}
 use Rattle.calls.specs.declared.Jumped.{Jumped}
 use Rattle.calls.proofs.CaseLaws.{jump-foreign, jump-out, jump-no-room, jump-done}
+use Rattle.calls.proofs.HistoryLaws.{none-opened}
 use Rattle.c_refusals.specs.Refusals.{pointRefusals}
 use Rattle.c_refusals.proofs.RefusalLaws.{point-out, point-no-room, point-none}
 use Rattle.big_endian.specs.Bytes.{wordBytes}
@@ -56,8 +56,8 @@ module _ (plan : List ℕ) (index : ℕ) (words rest : List ℕ) (short : length
       rw e (sym (w .0) ∙ sym (number n _ (λ z. omega (arith, refused-range plan n e))), sym (w .1) ∙ ap (λ (l : List ℕ). wordBytes l ++ rest) (sym (jump-foreign blank index words blank-foreign .1)))
 
   module _ (p : Plan) (v : Valid p) (e : readPlan plan ≡ accepted p) where
-    known : genuine (made p (runOf 0 0) 0) ≡ true
-    known = made-genuine p v (runOf 0 0) 0 (record { in-range = is-range (runOf 0 0) (omega arith); not-past = omega arith })
+    known : genuine (made p (oneStart p 0 0) 0) ≡ true
+    known = made-genuine p v (oneStart p 0 0) 0 (none-opened p v)
 
     -- the point in front of the words is its bytes in front of their bytes
     front : axisCount p ≤ length words
@@ -79,16 +79,16 @@ module _ (plan : List ℕ) (index : ℕ) (words rest : List ℕ) (short : length
         → (c ≡ pointCode plan index (wordBytes words ++ rest)) × (wordBytes words ++ rest ≡ pointBytes plan index (wordBytes words ++ rest))
     turned = point-turned plan index (wordBytes words ++ rest) p e
 
-    jumped : (pointCode plan index (wordBytes words ++ rest) ≡ jumpSpec (made p (runOf 0 0) 0) index words .code)
-        × (pointBytes plan index (wordBytes words ++ rest) ≡ wordBytes (jumpBuf (made p (runOf 0 0) 0) index words) ++ rest)
+    jumped : (pointCode plan index (wordBytes words ++ rest) ≡ jumpSpec (made p (oneStart p 0 0) 0) index words .code)
+        × (pointBytes plan index (wordBytes words ++ rest) ≡ wordBytes (jumpBuf (made p (oneStart p 0 0) 0) index words) ++ rest)
     unfolding made
     jumped =
-        let s = made p (runOf 0 0) 0 in
+        let s = made p (oneStart p 0 0) 0 in
         ⊎-elim
         (λ h.
         ⊎-elim
         (λ r. same s 13 words (jump-no-room s index words known h r) (turned 13 (point-no-room index (axisCount p) _ h (omega (arith, out-length))) (λ z. omega arith)))
-        (λ r. same s 0 (pointOf p index ++ drop (axisCount p) words) (rw (plan-in-made p v (runOf 0 0) 0) at (jump-done s index words known h r)) (done h r))
+        (λ r. same s 0 (pointOf p index ++ drop (axisCount p) words) (rw (plan-in-made p v (oneStart p 0 0) 0) at (jump-done s index words known h r)) (done h r))
         (lt-or-ge (length words) (axisCount p)))
         (λ h. same s 11 words (jump-out s index words known h) (turned 11 (point-out index (axisCount p) _ h) (λ z. omega arith)))
         (lt-or-ge index (2 ^ 32))

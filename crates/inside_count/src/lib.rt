@@ -65,7 +65,8 @@ fn count_part(
     w: &[u64],
 ) -> u64
     requires { ⌜ Arrays family axes (now bases) (now directions) × Within (now ns) m × (m ≤ 4096) × Room (now w) axes ⌝ }
-    ensures { λ r. ⌜ r ≡ count (insideFrom family (now (bases .entry)) (now (directions .entry)) (now (w .entry)) axes (ofAxis (now (ns .entry)))) m ⌝ }
+    ensures { λ r. ⌜ r ≡ count (insideFrom family (now (bases .entry)) (now (directions .entry)) (now (w .entry)) axes
+        (ofAxis (now (ns .entry)))) m ⌝ }
 {
     let mut l = [1u8; 4096];
     let mut i = 0;
@@ -89,7 +90,8 @@ pub fn count_inside<'a>(
     w: &[u64],
 ) -> u64
     requires { ⌜ Arrays family axes (now bases) (now directions) × Within (now ns) k × Room (now w) axes ⌝ }
-    ensures { λ r. ⌜ r ≡ count (insideFrom family (now (bases .entry)) (now (directions .entry)) (now (w .entry)) axes (ofAxis (now (ns .entry)))) k ⌝ }
+    ensures { λ r. ⌜ r ≡ count (insideFrom family (now (bases .entry)) (now (directions .entry)) (now (w .entry)) axes
+        (ofAxis (now (ns .entry)))) k ⌝ }
 {
     let mut t = 0;
     let mut i = 0;

@@ -192,6 +192,11 @@ pub index-padded : (starts : List ℕ) (count i t : ℕ) → indexAt (runOf (pad
 unfolding indexAt
 index-padded starts count i t = ap (λ (n : ℕ). n + t) (padded-at 6 starts i)
 
+-- from the first index on
+pub from-padded : (r : Run) {starts : List ℕ} → starts ≡ padded 6 (r .starts) → (i t : ℕ) → getD starts i 0 + t ≡ indexAt r i t
+unfolding indexAt
+from-padded r e i t = ap (λ (l : List ℕ). getD l i 0 + t) e ∙ ap (λ (n : ℕ). n + t) (padded-at 6 (r .starts) i)
+
 -- ---- a part
 
 module _ (r : Run) (t n : ℕ) where
@@ -284,6 +289,10 @@ module _ (p : Plan) (start count : ℕ) where
   pub one-index : (i t : ℕ) → i < axisCount p → indexAt (oneStart p start count) i t ≡ start + t
   unfolding indexAt
   one-index i t h = ap (λ (n : ℕ). n + t) (one-at i h)
+
+  -- by one index for all
+  pub from-all : axisCount p ≤ 6 → (i t : ℕ) → i < axisCount p → getD (replicate 6 start) i 0 + t ≡ indexAt (oneStart p start count) i t
+  from-all few i t h = ap (λ (n : ℕ). n + t) (getD-replicate 6 i start 0 (omega arith)) ∙ sym (one-index i t h)
 
   pub one-point : (t : ℕ) → runPoint p (oneStart p start count) t ≡ pointOf p (start + t)
   unfolding runPoint runNumerator pointOf

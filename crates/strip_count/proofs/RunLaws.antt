@@ -14,16 +14,16 @@ use Rattle.numbers.proofs.NumeratorLaws.{numerator-ext}
 use Rattle.permutation.specs.Families.{imageOf}
 use Rattle.permutation.proofs.FamilyLaws.{image-permutes}
 use Rattle.halton.specs.Axis.{numerator}
-use Rattle.discrepancy.specs.Bound.{inCut, inside, haltonAxes, axisIn}
-use Rattle.points.specs.Arrays.{Arrays}
+use Rattle.discrepancy.specs.Bound.{CutAxis, inCut, inside, haltonAxes, axisIn}
+use Rattle.points.specs.Arrays.{ofAxis, Arrays, Within}
 use Rattle.points.proofs.ArrayLaws.{numerator-by-base, denominator-by-base}
-use Rattle.window.specs.Counting.{cutAt}
+use Rattle.window.specs.Counting.{cutAxes, cutAt}
 use Rattle.window.specs.Walking.{Room, axisInsideBy, insideFrom}
 use Rattle.strips.specs.Ends.{inEnds, endsIn, insideEnds, haltonEnds}
 use Rattle.strips.specs.Classes.{belowRest, withinRest, insideAlong, baseIn, imageFrom, tableAxes, Digits, EndsAt, Held, Steps}
 use Rattle.strips.proofs.RestLaws.{within-below}
 use Rattle.strip_order.specs.Order.{Order, Bases}
-use Rattle.strip_count.specs.Rows.{runAxes, Rowed, Filled, Reached}
+use Rattle.strip_count.specs.Rows.{Rowed, Filled, Reached}
 
 -- ---- the rows and the table
 
@@ -69,8 +69,9 @@ module _ {bases starts w order rows : List ℕ} {s : ℕ} (row : Rowed bases sta
               })
 
       -- row i is the axis that stands there in the order
-      row-inside : (r t i : ℕ) → i < s → endsIn (tableAxes l rows) (0 + r * t) i ≡ axisIn (runAxes family bases starts r w) t (getD order i 0)
-      unfolding inEnds tableAxes haltonEnds haltonAxes inCut runAxes withinRest belowRest numerator denominator
+      row-inside : (r t i : ℕ) → i < s → endsIn (tableAxes l rows) (0 + r * t) i
+          ≡ axisIn (cutAxes family bases (ofAxis starts) r (cutAt w)) t (getD order i 0)
+      unfolding inEnds tableAxes haltonEnds haltonAxes inCut cutAxes withinRest belowRest numerator denominator
       row-inside r t i b =
           let x = getD order i 0 in
           let base = getD bases x 0 in
@@ -84,32 +85,36 @@ module _ {bases starts w order rows : List ℕ} {s : ℕ} (row : Rowed bases sta
           (numerator-ext (imageFrom l (256 * i)) (imageOf family base) base (depth base) n (omega (arith, g .low x (o .low i b)))
           (λ d k. f .at i d b k)))
 
-      pub run-counted : (r k : ℕ) → count (insideAlong (tableAxes l rows) s 0 r) k ≡ count (inside (runAxes family bases starts r w) s) k
+      pub run-counted : (r k : ℕ) → count (insideAlong (tableAxes l rows) s 0 r) k
+          ≡ count (inside (cutAxes family bases (ofAxis starts) r (cutAt w)) s) k
       unfolding insideAlong insideEnds inside
       run-counted r k =
-          count-ext (insideAlong (tableAxes l rows) s 0 r) (inside (runAxes family bases starts r w) s) k
+          let ax = cutAxes family bases (ofAxis starts) r (cutAt w) in
+          count-ext (insideAlong (tableAxes l rows) s 0 r) (inside ax s) k
           (λ t h.
-          each-ext (endsIn (tableAxes l rows) (0 + r * t)) (λ i. axisIn (runAxes family bases starts r w) t (getD order i 0)) s (row-inside r t)
-          ∙ o .same (axisIn (runAxes family bases starts r w) t))
+          each-ext (endsIn (tableAxes l rows) (0 + r * t)) (λ i. axisIn ax t (getD order i 0)) s (row-inside r t)
+          ∙ o .same (axisIn ax t))
 
--- ---- one start for every axis, and stride 1
+-- ---- stride 1
 
-module _ (starts : List ℕ) (s n : ℕ) (one : (i : ℕ) → i < s → getD starts i 0 ≡ n) where
-  pub one-reached : {k : ℕ} → n + k ≤ 2 ^ 32 → Reached starts s 1 k
-  one-reached h = record { low = λ t l. omega arith; index = λ i t b l. omega (arith, one i b) }
+pub one-reached : {ns : List ℕ} {s k : ℕ} → Within ns k → Reached ns s 1 k
+one-reached h = record { low = λ t l. omega (arith, h .at 0); index = λ i t b l. omega (arith, h .at i) }
 
-  -- such a run is the one that is walked
-  pub one-start : (family : ℕ) (bases vs w : List ℕ) → (family ≡ 2 → ⊥) → (k : ℕ)
-      → count (inside (runAxes family bases starts 1 w) s) k ≡ count (insideFrom family bases vs w s n) k
-  unfolding inside insideFrom inCut runAxes haltonAxes axisInsideBy numerator denominator
-  one-start family bases vs w halton k =
-      count-ext (inside (runAxes family bases starts 1 w) s) (insideFrom family bases vs w s n) k
-      (λ t h. each-ext (axisIn (runAxes family bases starts 1 w) t) (axisInsideBy family bases vs w (n + t)) s (axis t))
-    where
-      axis : (t i : ℕ) → i < s → axisIn (runAxes family bases starts 1 w) t i ≡ axisInsideBy family bases vs w (n + t) i
-      axis t i b =
-          let index : n + 1 * t ≡ n + t = omega arith in
-          rw (← numerator-by-base family bases vs (n + t) i halton, ← denominator-by-base family bases i halton, one i b, index) refl
+-- such a run is the one that is walked
+pub one-stride : (family : ℕ) (bases vs w : List ℕ) (n : ℕ → ℕ) (s : ℕ) → (family ≡ 2 → ⊥) → (k : ℕ)
+    → count (inside (cutAxes family bases n 1 (cutAt w)) s) k ≡ count (insideFrom family bases vs w s n) k
+unfolding inside insideFrom inCut cutAxes haltonAxes axisInsideBy numerator denominator
+one-stride family bases vs w n s halton k =
+    count-ext (inside ax s) (insideFrom family bases vs w s n) k
+    (λ t h. each-ext (axisIn ax t) (λ i. axisInsideBy family bases vs w (n i + t) i) s (axis t))
+  where
+    ax : ℕ → CutAxis
+    ax = cutAxes family bases n 1 (cutAt w)
+
+    axis : (t i : ℕ) → i < s → axisIn ax t i ≡ axisInsideBy family bases vs w (n i + t) i
+    axis t i b =
+        let index : n i + 1 * t ≡ n i + t = omega arith in
+        rw (← numerator-by-base family bases vs (n i + t) i halton, ← denominator-by-base family bases i halton, index) refl
 
 pub arrays-bases : {family axes : ℕ} {bases vs : List ℕ} → Arrays family axes bases vs → (family ≡ 2 → ⊥) → Bases axes bases
 arrays-bases a f =

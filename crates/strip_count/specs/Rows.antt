@@ -4,14 +4,8 @@ use mathlib.Core.List.{List}
 use Prim.Native.Nat.{ℕ, _+_, _*_, _^_, _<_}
 use lib.ListN.{getD}
 use Rattle.permutation.specs.Families.{imageOf}
-use Rattle.discrepancy.specs.Bound.{CutAxis, haltonAxes}
 use Rattle.window.specs.Counting.{cutAt}
 use Rattle.strips.specs.Classes.{baseIn, startIn, lIn, uIn, qIn, imageFrom}
-
--- the axes of a run with a start for each axis and one stride, in the plan's order
-unfoldable pub runAxes : ℕ → List ℕ → List ℕ → ℕ → List ℕ → ℕ → CutAxis
-runAxes family bases starts r w =
-    haltonAxes (λ i. imageOf family (getD bases i 0)) (λ i. getD bases i 0) (λ i. getD starts i 0) r (λ i. cutAt w i .u) (λ i. cutAt w i .q)
 
 -- row i is a base, a start, and the ends 0 and u / q
 pub record RowAt (rows : List ℕ) (i b n u q : ℕ) : Type 0 where

@@ -4,10 +4,11 @@ ghost use Prim.Native.Nat.{_+_, _*_, _^_, _≤_};
 ghost use lib.ListN.{length};
 ghost use Rattle.numbers.specs.Count.{count};
 ghost use Rattle.discrepancy.specs.Bound.{inside};
-ghost use Rattle.points.specs.Arrays.{Arrays};
+ghost use Rattle.points.specs.Arrays.{ofAxis, Arrays, Within};
+ghost use Rattle.window.specs.Counting.{cutAxes, cutAt};
 ghost use Rattle.window.specs.Walking.{insideFrom, Room};
 ghost use Rattle.strip_order.specs.Order.{Order, Bases};
-ghost use Rattle.strip_count.specs.Rows.{runAxes, RowPut, Rowed, Filled, Reached};
+ghost use Rattle.strip_count.specs.Rows.{RowPut, Rowed, Filled, Reached};
 
 // Writes row `i`: a base, a start, and the ends 0 and u / q.
 fn put_row(rows: &mut [u64], i: usize, base: u64, start: u64, u: u64, q: u64)
@@ -48,44 +49,45 @@ fn put_images(family: u64, axes: usize, bases: &[u64], order: &[u64], l: &mut [u
     }
 }
 
-// How many of the `k` steps of stride `stride` are inside, each axis from its own start on, by digit strips; the axes in the given order.
+// How many of the `k` steps of stride `stride` are inside, each axis from its own index of `ns` on, by digit strips; the axes in the given order.
 fn count_strips(
     family: u64,
     axes: usize,
     bases: &[u64],
-    starts: &[u64],
+    ns: &[u64],
     stride: u64,
     k: u64,
     w: &[u64],
     order: &[u64],
 ) -> u64
-    requires { ⌜ Bases axes (now bases) × (axes ≤ length (now starts)) × Reached (now starts) axes stride k × (k ≤ 2 ^ 32) × Room (now w) axes × (axes ≤ length (now order)) × Order axes (now order) ⌝ }
-    ensures { λ r. ⌜ r ≡ count (inside (runAxes family (now (bases .entry)) (now (starts .entry)) stride (now (w .entry))) axes) k ⌝ }
+    requires { ⌜ Bases axes (now bases) × (axes ≤ length (now ns)) × Reached (now ns) axes stride k × (k ≤ 2 ^ 32)
+        × Room (now w) axes × (axes ≤ length (now order)) × Order axes (now order) ⌝ }
+    ensures { λ r. ⌜ r ≡ count (inside (cutAxes family (now (bases .entry)) (ofAxis (now (ns .entry))) stride (cutAt (now (w .entry)))) axes) k ⌝ }
 {
     let mut rows = [0u64; 30];
-    put_rows(axes, bases, starts, w, order, &mut rows);
+    put_rows(axes, bases, ns, w, order, &mut rows);
     let mut l = [0u8; 1536];
     put_images(family, axes, bases, order, &mut l);
     class_count::count_class(&l, &rows, axes, 0, stride, k)
 }
 
-// How many of the `k` points from index `n` on are inside, by digit strips or walked, whichever is the faster.
+// How many of the `k` points from the indexes `ns` on, one for each axis, are inside, by digit strips or walked, whichever is the faster.
 pub fn count_inside<'a>(
     family: u64,
     axes: usize,
     bases: &'a [u64],
     directions: &'a [u64],
-    n: u64,
+    ns: &[u64],
     k: usize,
     w: &[u64],
 ) -> u64
-    requires { ⌜ Arrays family axes (now bases) (now directions) × (n + k ≤ 2 ^ 32) × Room (now w) axes ⌝ }
-    ensures { λ r. ⌜ r ≡ count (insideFrom family (now (bases .entry)) (now (directions .entry)) (now (w .entry)) axes n) k ⌝ }
+    requires { ⌜ Arrays family axes (now bases) (now directions) × Within (now ns) k × Room (now w) axes ⌝ }
+    ensures { λ r. ⌜ r ≡ count (insideFrom family (now (bases .entry)) (now (directions .entry)) (now (w .entry)) axes
+        (ofAxis (now (ns .entry)))) k ⌝ }
 {
     let mut order = [0u64; 6];
     if strip_order::is_walked(family, axes, bases, k as u64, w, &mut order) {
-        return inside_count::count_inside(family, axes, bases, directions, n, k, w);
+        return inside_count::count_inside(family, axes, bases, directions, ns, k, w);
     }
-    let starts = [n; 6];
-    count_strips(family, axes, bases, &starts, 1, k as u64, w, &order)
+    count_strips(family, axes, bases, ns, 1, k as u64, w, &order)
 }

@@ -55,14 +55,14 @@ module _ (p : Plan) (v : Valid p) (w : List ℕ) (r : Run) where
   axis-plan t i l = rw (cuts-at w (axisCount p) i l, numerator-at-plan p v (indexAt r i t) i l, denominator-at-plan p v i) refl
 
   -- by the run's first indexes
-  count-plan : (n : ℕ → ℕ) → ((i t : ℕ) → n i + t ≡ indexAt r i t)
+  count-plan : (n : ℕ → ℕ) → ((i t : ℕ) → i < axisCount p → n i + t ≡ indexAt r i t)
       → count (insideFrom (familyOf p) (basesArray p) (directionsArray p) w (axisCount p) n) (r .count) ≡ insideCount p (cutsOf w (axisCount p)) r
   unfolding insideCount stepInside insideFrom
   count-plan n same =
       count-ext (insideFrom (familyOf p) (basesArray p) (directionsArray p) w (axisCount p) n) (stepInside p (cutsOf w (axisCount p)) r) (r .count)
       (λ t l.
       each-ext (λ i. by (n i + t) i) (axisInside p (cutsOf w (axisCount p)) r t) (axisCount p)
-      (λ i h. ap (λ (k : ℕ). by k i) (same i t) ∙ axis-plan t i h))
+      (λ i h. ap (λ (k : ℕ). by k i) (same i t h) ∙ axis-plan t i h))
     where
       by : ℕ → ℕ → Bool
       by = axisInsideBy (familyOf p) (basesArray p) (directionsArray p) w
@@ -94,11 +94,9 @@ bound-of-fits (sobol axes) v N h = omega arith
 
 -- arrays that are a plan's
 module _ (p : Plan) {family axes : ℕ} {bases : List ℕ} (f : family ≡ familyOf p) (a : axes ≡ axisCount p) (b : bases ≡ basesArray p) (v : Valid p) where
-  pub count-held : {vs : List ℕ} → vs ≡ directionsArray p → (w : List ℕ) (r : Run) {starts : List ℕ} → starts ≡ padded 6 (r .starts)
-      → count (insideFrom family bases vs w axes (ofAxis starts)) (r .count) ≡ insideCount p (cutsOf w (axisCount p)) r
-  unfolding indexAt
-  count-held d w r {starts} e =
-      rw (f, a, b, d) (count-plan p v w r (ofAxis starts) (λ i t. ap (λ (l : List ℕ). getD l i 0 + t) e ∙ index-padded (r .starts) (r .count) i t))
+  pub count-held : {vs : List ℕ} → vs ≡ directionsArray p → (w : List ℕ) (r : Run) (n : ℕ → ℕ) → ((i t : ℕ) → i < axisCount p → n i + t ≡ indexAt r i t)
+      → count (insideFrom family bases vs w axes n) (r .count) ≡ insideCount p (cutsOf w (axisCount p)) r
+  count-held d w r n same = rw (f, a, b, d) (count-plan p v w r n same)
 
   pub bound-held : (N : ℕ) → boundBy (eqb family 2) bases N axes ≡ boundOf p N
   bound-held N = rw (f, a, b) (bound-plan p v N)

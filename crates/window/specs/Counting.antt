@@ -63,7 +63,7 @@ unfoldable pub cutAxes : ℕ → List ℕ → (ℕ → ℕ) → ℕ → (ℕ →
 cutAxes family bases first stride cut =
     haltonAxes (λ i. imageOf family (baseAt bases i)) (baseAt bases) first stride (λ i. cut i .u) (λ i. cut i .q)
 
--- as a run reads them
+-- a run's: each axis from its index of step 0 on, with stride 1
 abbrev pub runAxes : ℕ → List ℕ → List Cut → Run → ℕ → CutAxis
 runAxes family bases w r = cutAxes family bases (λ i. indexAt r i 0) 1 (λ i. getD w i noCut)
 

@@ -2,4 +2,5 @@
 pub mod CaseLaws
 pub mod Demand3
 pub mod PartLaws
+pub mod OneStartLaws
 pub mod StripLaws

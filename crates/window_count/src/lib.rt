@@ -2,9 +2,8 @@
 use plan::refusal;
 use state::Sampler;
 ghost use mathlib.Core.Path.{_≡_};
-ghost use Prim.Native.Nat.{_+_, _^_, _≤_};
 ghost use Rattle.numbers.specs.Count as counting;
-ghost use Rattle.points.specs.Arrays.{Arrays};
+ghost use Rattle.points.specs.Arrays.{ofAxis, Arrays, Within};
 ghost use Rattle.window.specs.Walking.{insideFrom, Room};
 ghost use Rattle.window_count.specs.Call.{counted, countSpec};
 
@@ -26,24 +25,24 @@ pub fn refused(code: u64) -> Counted
     }
 }
 
-// How many of the `k` points from index `n` on are inside the window `w`: by strips, or walked.
+// How many of the `k` points from the indexes `ns` on, one for each axis, are inside the window `w`: by strips, or walked.
 fn inside_by<'a>(
     by_strips: bool,
     family: u64,
     axes: usize,
     bases: &'a [u64],
     directions: &'a [u64],
-    n: u64,
+    ns: &'a [u64],
     k: usize,
     w: &[u64],
 ) -> u64
-    requires { ⌜ Arrays family axes (now bases) (now directions) × (n + k ≤ 2 ^ 32) × Room (now w) axes ⌝ }
-    ensures { λ r. ⌜ r ≡ counting.count (insideFrom family (now (bases .entry)) (now (directions .entry)) (now (w .entry)) axes n) k ⌝ }
+    requires { ⌜ Arrays family axes (now bases) (now directions) × Within (now ns) k × Room (now w) axes ⌝ }
+    ensures { λ r. ⌜ r ≡ counting.count (insideFrom family (now (bases .entry)) (now (directions .entry)) (now (w .entry)) axes (ofAxis (now (ns .entry)))) k ⌝ }
 {
     if by_strips {
-        return strip_count::count_inside(family, axes, bases, directions, n, k, w);
+        return strip_count::count_inside(family, axes, bases, directions, ns, k, w);
     }
-    inside_count::count_inside(family, axes, bases, directions, n, k, w)
+    inside_count::count_inside(family, axes, bases, directions, ns, k, w)
 }
 
 // The count of either call.
@@ -73,7 +72,7 @@ fn counted_by(s: Sampler, w: &[u64], by_strips: bool) -> Counted
         axes,
         &s.bases,
         &s.directions,
-        s.start,
+        &s.starts,
         s.count as usize,
         w,
     );

@@ -9,7 +9,8 @@ use Rattle.blocks.proofs.fill_rows.Statement.{statement}
 use Rattle.blocks.proofs.fill_rows.Tie as tie
 
 abbrev Inv-loop : tie.InvT-loop
-Inv-loop family axes bases directions ns lo hi out₀ lead s i₀ out i = (i ≤ axes) × Columns (numeratorsFrom family bases directions (ofAxis ns)) lo hi (lead + axes) lead i out₀ out
+Inv-loop family axes bases directions ns lo hi out₀ lead s i₀ out i =
+    (i ≤ axes) × Columns (numeratorsFrom family bases directions (ofAxis ns)) lo hi (lead + axes) lead i out₀ out
 
 abbrev μ-loop : tie.MeasureT-loop
 μ-loop family axes bases directions ns lo hi out₀ lead s i₀ out i = axes - i
@@ -20,11 +21,11 @@ add-s c = omega (arith, c .before .before .before .before .pre .0 .few)
 loop-holds : tie.Need-loop-holds Inv-loop μ-loop
 loop-holds c = (omega arith, columns-none _ _ _ _ _ _)
 
-mul-fill-column : tie.Need-mul-fill-column Inv-loop μ-loop
-mul-fill-column c = omega (arith, c .before .before .before .before .before .before .pre .0 .few)
+mul-n : tie.Need-mul-n Inv-loop μ-loop
+mul-n c = omega (arith, c .before .before .before .before .before .before .pre .0 .few)
 
-shared-slice-read-fill-column : tie.Need-shared-slice-read-fill-column Inv-loop μ-loop
-shared-slice-read-fill-column c = let s = c .before .before .before .before .before .before .before in omega (arith, s .pre .0 .few, s .pre .2 .long)
+shared-slice-read-n : tie.Need-shared-slice-read-n Inv-loop μ-loop
+shared-slice-read-n c = let s = c .before .before .before .before .before .before .before in omega (arith, s .pre .0 .few, s .pre .2 .long)
 
 add-fill-column : tie.Need-add-fill-column Inv-loop μ-loop
 add-fill-column c = omega (arith, c .before .before .before .before .before .before .before .pre .0 .few)
@@ -43,7 +44,9 @@ loop-less c = omega arith
 
 loop-again : tie.Need-loop-again Inv-loop μ-loop
 unfolding numeratorsFrom
-loop-again c = (omega arith, columns-more (c .before .before .before .before .before .before .loop .inv .1) (c .before .before .fill-column .ensures) (omega arith))
+loop-again c =
+    let l = c .before .before .before .before .before .before .loop in
+    (omega arith, columns-more (l .inv .1) (c .before .before .fill-column .ensures) (omega arith))
 
 same-length : tie.Need-same-length Inv-loop μ-loop
 same-length c = c .before .loop .inv .1 .same-length
@@ -59,8 +62,8 @@ fill-rows-spec =
     μ-loop
     add-s
     loop-holds
-    mul-fill-column
-    shared-slice-read-fill-column
+    mul-n
+    shared-slice-read-n
     add-fill-column
     fill-column-requires
     add-i

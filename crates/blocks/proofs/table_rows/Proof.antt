@@ -14,7 +14,8 @@ use Rattle.blocks.proofs.table_rows.Statement.{statement}
 use Rattle.blocks.proofs.table_rows.Tie as tie
 
 abbrev Inv-loop : tie.InvT-loop
-Inv-loop axes bases images tables sizes ns lo hi out₀ lead s i₀ out i = (i ≤ axes) × Columns (tabledAt bases images (ofAxis ns)) lo hi (lead + axes) lead i out₀ out
+Inv-loop axes bases images tables sizes ns lo hi out₀ lead s i₀ out i =
+    (i ≤ axes) × Columns (tabledAt bases images (ofAxis ns)) lo hi (lead + axes) lead i out₀ out
 
 abbrev μ-loop : tie.MeasureT-loop
 μ-loop axes bases images tables sizes ns lo hi out₀ lead s i₀ out i = axes - i
@@ -80,7 +81,8 @@ mul-fill-tiles-4 : tie.Need-mul-fill-tiles-4 Inv-loop μ-loop
 mul-fill-tiles-4 c = omega arith
 
 shared-slice-read-fill-tiles-3 : tie.Need-shared-slice-read-fill-tiles-3 Inv-loop μ-loop
-shared-slice-read-fill-tiles-3 c = omega (arith, c .before .before .before .before .before .before .before .before .before .before .before .before .before .pre .1 .2 .long)
+shared-slice-read-fill-tiles-3 c =
+    omega (arith, c .before .before .before .before .before .before .before .before .before .before .before .before .before .pre .1 .2 .long)
 
 add-fill-tiles : tie.Need-add-fill-tiles Inv-loop μ-loop
 add-fill-tiles c = omega arith
@@ -101,14 +103,12 @@ loop-less c = omega arith
 loop-again : tie.Need-loop-again Inv-loop μ-loop
 unfolding tabledAt
 loop-again c =
-    let a = c .before .before .before .before .before .before .before .before .before .before .before .before .before .before .before .before .before .args in
-    let l = c .before .before .before .before .before .before .before .before .before .before .loop in
-    let k : 256 * l .i + 256 - 256 * l .i ≡ 256 = omega arith in (
-      omega arith,
-      columns-more (l .inv .1)
-          (column-as (c .before .before .fill-tiles .ensures) (tabledAt (now (a .bases)) (now (a .images)) (ofAxis (now (a .ns))) (l .i)) (λ x h q. rw k refl))
-          (omega arith),
-    )
+    let t = c .before .before .before .before .before .before .before .before .before in
+    let a = t .before .before .before .before .before .before .before .before .args in
+    let l = t .before .loop in
+    let f = tabledAt (now (a .bases)) (now (a .images)) (ofAxis (now (a .ns))) in
+    let k : 256 * l .i + 256 - 256 * l .i ≡ 256 = omega arith in
+    (omega arith, columns-more (l .inv .1) (column-as (c .before .before .fill-tiles .ensures) (f (l .i)) (λ x h q. rw k refl)) (omega arith))
 
 same-length : tie.Need-same-length Inv-loop μ-loop
 same-length c = c .before .loop .inv .1 .same-length

@@ -9,7 +9,6 @@ use Rattle.plan.specs.Reading.{accepted, readPlan}
 use Rattle.plan.specs.Answer.{planAnswered, Accepted}
 use Rattle.plan.proofs.AnswerLaws.{read-refused}
 use Rattle.state.proofs.StateLaws.{accepted-few}
-use Rattle.points.specs.Run.{runOf}
 use Rattle.plan.specs.Order.{firstDue}
 use Rattle.c_refusals.specs.Refusals.{countRefusals}
 use Rattle.c_refusals.proofs.RefusalLaws.{count-zero}
@@ -31,12 +30,12 @@ known c =
 tested : (c : tie.After-count-refusal)
     → let r = c .before .before .before .before in
     let a = r .before .before .before .before .args in
-    c .count-refusal .result ≡ firstDue (countOrder (planAnswered (r .read-plan .result)) (runOf (a .start) (a .count)) (a .window .now) (a .out .now))
+    c .count-refusal .result ≡ firstDue (countOrder (planAnswered (r .read-plan .result)) (a .start) (a .count) (a .window .now) (a .out .now))
 tested c =
     let r = c .before .before .before .before in
     let a = r .before .before .before .before .args in
     c .count-refusal .ensures
-    ∙ ap (λ (v : Bool). firstDue (countRefusals (runOf (a .start) (a .count)) v (length (a .out .now)))) (c .before .is-window-bytes .ensures ∙ ap (isWindowBytes (a .window .now)) (accepted-axes (known (c .before .before) .1)))
+    ∙ ap (λ (v : Bool). firstDue (countRefusals (a .start) (a .count) v (length (a .out .now)))) (c .before .is-window-bytes .ensures ∙ ap (isWindowBytes (a .window .now)) (accepted-axes (known (c .before .before) .1)))
 
 passed : (c : tie.Else2) → c .before .count-refusal .result ≡ 0
 passed c = omega arith
@@ -48,7 +47,7 @@ returns : tie.Need-returns
 returns c =
     let r = c .before .before in
     let a = r .before .before .before .before .args in
-    count-refused (a .plan .now) (runOf (a .start) (a .count)) (a .window .now) (a .out .now) _ (read-refused _ _ (r .read-plan .ensures) (λ e. omega arith))
+    count-refused (a .plan .now) (a .start) (a .count) (a .window .now) (a .out .now) _ (read-refused _ _ (r .read-plan .ensures) (λ e. omega arith))
 
 is-window-bytes-requires : tie.Need-is-window-bytes-requires
 is-window-bytes-requires c κs = omega (arith, accepted-few (known c .1))
@@ -59,12 +58,12 @@ count-refusal-requires c κs = search needs
 returns-2 : tie.Need-returns-2
 returns-2 c =
     let a = c .before .before .before .before .before .before .before .before .before .args in
-    count-turned (a .plan .now) (runOf (a .start) (a .count)) (a .window .now) (a .out .now) _ (known (c .before .before .before) .0) (c .before .count-refusal .result) (tested (c .before)) (λ e. omega arith)
+    count-turned (a .plan .now) (a .start) (a .count) (a .window .now) (a .out .now) _ (known (c .before .before .before) .0) (c .before .count-refusal .result) (tested (c .before)) (λ e. omega arith)
 
 put-count-requires : tie.Need-put-count-requires
 put-count-requires c κs =
     let r = c .before .before in
-    let z = count-zero _ _ _ (sym (r .count-refusal .ensures) ∙ passed (c .before)) in
+    let z = count-zero _ _ _ _ (sym (r .count-refusal .ensures) ∙ passed (c .before)) in
     (known (r .before .before) .1, z .0, sym (r .before .is-window-bytes .ensures) ∙ z .1, z .2)
 
 same-length : tie.Need-same-length
@@ -74,7 +73,7 @@ returns-3 : tie.Need-returns-3
 returns-3 c =
     let a = c .before .before .before .before .before .before .before .before .before .before .before .before .before .args in
     let r = c .before .before .before .before .before in
-    count-done (a .plan .now) (runOf (a .start) (a .count)) (a .window .now) (a .out .now) _ (known (c .before .before .before .before .before .before .before) .0) (sym (passed (c .before .before .before .before)) ∙ tested r) (c .before .before .put-count .ensures)
+    count-done (a .plan .now) (a .start) (a .count) (a .window .now) (a .out .now) _ (known (c .before .before .before .before .before .before .before) .0) (sym (passed (c .before .before .before .before)) ∙ tested r) (c .before .before .put-count .ensures)
 
 pub hisowake-window-count-spec : {M : Type 1} → statement M
 hisowake-window-count-spec =

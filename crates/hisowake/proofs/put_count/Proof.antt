@@ -6,8 +6,7 @@ use native.Mathlib.Omega.{arith}
 use borrow.Author.Needs.{needs}
 use lib.ListN.{length, take}
 use Rattle.plan.specs.Answer.{planAnswered}
-use Rattle.points.specs.Run.{runOf}
-use Rattle.points.proofs.RunLaws.{range-is}
+use Rattle.points.proofs.RunLaws.{start-is, within-all}
 use Rattle.state.proofs.StateLaws.{Holds, holds-arrays, accepted-holds, accepted-few}
 use Rattle.window.specs.Walking.{Room}
 use Rattle.window.proofs.RangeLaws.{window-room}
@@ -44,18 +43,21 @@ slice-aggregate-count-inside c = search needs
 slice-aggregate-count-inside-2 : tie.Need-slice-aggregate-count-inside-2
 slice-aggregate-count-inside-2 c = search needs
 
-array-share-prefix-w : tie.Need-array-share-prefix-w
-array-share-prefix-w c = omega (arith, accepted-few (c .before .before .before .before .before .before .before .pre .0))
-
 slice-aggregate-count-inside-3 : tie.Need-slice-aggregate-count-inside-3
-slice-aggregate-count-inside-3 c = sym (ap length (numbers (c .before .before .before)) ∙ window-length _ _)
+slice-aggregate-count-inside-3 c = search needs
+
+array-share-prefix-w : tie.Need-array-share-prefix-w
+array-share-prefix-w c = omega (arith, accepted-few (c .before .before .before .before .before .before .before .before .pre .0))
+
+slice-aggregate-count-inside-4 : tie.Need-slice-aggregate-count-inside-4
+slice-aggregate-count-inside-4 c = sym (ap length (numbers (c .before .before .before .before)) ∙ window-length _ _)
 
 count-inside-requires : tie.Need-count-inside-requires
 count-inside-requires c κs =
-    let s = c .before .before .before .before .before .before .before .before in
-    let n = c .before .before .before in (
+    let s = c .before .before .before .before .before .before .before .before .before in
+    let n = c .before .before .before .before in (
       holds-arrays (held (n .before)) (s .pre .0 .valid),
-      range-is (runOf (s .args .start) (s .args .count)) (s .pre .1),
+      within-all (s .args .start) (s .args .count) (start-is (s .args .start) (s .args .count) (s .pre .1)),
       subst (λ (w : List ℕ). Room w (s .args .a .axes)) (sym (numbers n)) (window-room _ _ (window-bytes _ _ (s .pre .2) .1)),
     )
 
@@ -67,8 +69,8 @@ slice-aggregate-bound-2 c = search needs
 
 bound-requires : tie.Need-bound-requires
 bound-requires c κs =
-    let s = c .before .before .before .before .before .before .before .before .before .before .before in
-    (holds-arrays (held (c .before .before .before .before .before .before .before)) (s .pre .0 .valid), omega (arith, range-is (runOf (s .args .start) (s .args .count)) (s .pre .1)))
+    let s = c .before .before .before .before .before .before .before .before .before .before .before .before in
+    (holds-arrays (held (c .before .before .before .before .before .before .before .before)) (s .pre .0 .valid), omega (arith, start-is (s .args .start) (s .args .count) (s .pre .1)))
 
 slice-aggregate-put-words : tie.Need-slice-aggregate-put-words
 slice-aggregate-put-words c = search needs
@@ -81,9 +83,9 @@ same-length c = search needs
 
 returns : tie.Need-returns
 returns c =
-    let s = c .before .before .before .before .before .before .before .before .before .before .before .before .before .before .before .before .before in
-    let n = c .before .before .before .before .before .before .before .before .before .before .before .before in
-    count-put (held (n .before)) (s .pre .0 .valid) (runOf (s .args .start) (s .args .count)) (s .args .window .now) (s .args .out .now) _ _ _ _ (numbers n) (c .before .before .before .before .before .before .before .before .count-inside .ensures) (c .before .before .before .before .before .bound .ensures) (c .before .before .put-words .ensures)
+    let s = c .before .before .before .before .before .before .before .before .before .before .before .before .before .before .before .before .before .before in
+    let n = c .before .before .before .before .before .before .before .before .before .before .before .before .before in
+    count-put (held (n .before)) (s .pre .0 .valid) (s .args .start) (s .args .count) (s .args .window .now) (s .args .out .now) _ _ _ _ (numbers n) (c .before .before .before .before .before .before .before .before .count-inside .ensures) (c .before .before .before .before .before .bound .ensures) (c .before .before .put-words .ensures)
 
 pub put-count-spec : {M : Type 1} → statement M
 put-count-spec =
@@ -94,8 +96,9 @@ put-count-spec =
     mul-end
     slice-aggregate-count-inside
     slice-aggregate-count-inside-2
-    array-share-prefix-w
     slice-aggregate-count-inside-3
+    array-share-prefix-w
+    slice-aggregate-count-inside-4
     count-inside-requires
     slice-aggregate-bound
     slice-aggregate-bound-2

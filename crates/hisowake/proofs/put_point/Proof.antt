@@ -5,6 +5,7 @@ use borrow.Author.Needs.{needs}
 use lib.ListN.{length, take}
 use lib.Seq.{length-take-le}
 use Rattle.plan.specs.Answer.{planAnswered}
+use Rattle.points.proofs.RunLaws.{within-all}
 use Rattle.state.proofs.StateLaws.{Holds, holds-arrays, accepted-holds, accepted-few}
 use Rattle.hisowake.proofs.CallLaws.{point-put}
 use Rattle.hisowake.proofs.put_point.Statement.{statement}
@@ -15,9 +16,9 @@ held : (c : tie.After-plan-directions)
 held c = accepted-holds (c .before .before .before .pre .0) _ (c .plan-directions .ensures)
 
 -- the front of the point has as many words as the plan has axes
-front : (c : tie.After-point) → let n = c .before .before .before .before .before .before .args .a .axes in length (take n (c .point .result)) ≡ n
+front : (c : tie.After-point) → let n = c .before .before .before .before .before .before .before .args .a .axes in length (take n (c .point .result)) ≡ n
 front c =
-    let s = c .before .before .before .before .before .before in
+    let s = c .before .before .before .before .before .before .before in
     let six : length (c .point .result) ≡ 6 = search needs in
     length-take-le (s .args .a .axes) (c .point .result) (omega (arith, accepted-few (s .pre .0)))
 
@@ -30,14 +31,17 @@ slice-aggregate-point c = search needs
 slice-aggregate-point-2 : tie.Need-slice-aggregate-point-2
 slice-aggregate-point-2 c = search needs
 
+slice-aggregate-point-3 : tie.Need-slice-aggregate-point-3
+slice-aggregate-point-3 c = search needs
+
 point-requires : tie.Need-point-requires
 point-requires c κs =
-    let s = c .before .before .before .before .before in
-    (holds-arrays (held (c .before .before)) (s .pre .0 .valid), s .pre .1)
+    let s = c .before .before .before .before .before .before in
+    (holds-arrays (held (c .before .before .before)) (s .pre .0 .valid), within-all (s .args .n) 1 (omega arith))
 
 array-share-prefix-x : tie.Need-array-share-prefix-x
 array-share-prefix-x c =
-    let s = c .before .before .before .before .before .before .before in
+    let s = c .before .before .before .before .before .before .before .before in
     omega (arith, accepted-few (s .pre .0))
 
 slice-aggregate-put-words : tie.Need-slice-aggregate-put-words
@@ -53,7 +57,7 @@ returns : tie.Need-returns
 returns c =
     let w = c .before .before in
     let p = w .before .before .before in
-    let d = p .before .before .before in
+    let d = p .before .before .before .before in
     let s = d .before .before .before in
     point-put (held d) (s .pre .0 .valid) (s .args .n) (s .args .out .now) _ (p .point .result) (p .point .ensures) (w .put-words .ensures)
 
@@ -64,6 +68,7 @@ put-point-spec =
     plan-directions-requires
     slice-aggregate-point
     slice-aggregate-point-2
+    slice-aggregate-point-3
     point-requires
     array-share-prefix-x
     slice-aggregate-put-words

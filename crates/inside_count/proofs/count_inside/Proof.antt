@@ -6,9 +6,10 @@ use borrow.Author.Needs.{needs}
 use Rattle.numbers.specs.Count.{count}
 use Rattle.points.specs.Arrays.{ofAxis}
 use Rattle.points.specs.Run.{indexAt}
+use Rattle.points.proofs.RunLaws.{within-less, six-at, within-on}
 use Rattle.window.specs.Walking.{insideFrom}
 use Rattle.numbers.proofs.CountLaws.{count-le}
-use Rattle.inside_count.proofs.FlagLaws.{parts-join, six-at, within-on, count-none}
+use Rattle.inside_count.proofs.FlagLaws.{parts-join, count-none}
 use Rattle.inside_count.proofs.count_inside.Statement.{statement}
 use Rattle.inside_count.proofs.count_inside.Tie as tie
 
@@ -38,7 +39,7 @@ next c =
     let n = ofAxis (a .ns .now) in
     let p = insideFrom (a .family) (a .bases .now) (a .directions .now) (a .w .now) (a .axes) n in
     let on : (i : ℕ) → i < a .axes → ofAxis (at .result) i ≡ n i + l .i =
-        λ i h. rw (at .ensures (a .k)) (six-at (s .pre .1) (a .k) (l .i) i (omega (arith, s .pre .0 .few))) in
+    λ i h. rw (at .ensures (a .k)) (six-at (s .pre .1) (a .k) (l .i) i (omega (arith, s .pre .0 .few))) in
     let m : l .i + (e - l .i) ≡ e = omega (arith, further (c .before .before .before)) in (
       ap₂ _+_ (l .inv .1) (c .count-part .ensures)
           ∙ sym (parts-join (a .family) (a .bases .now) (a .directions .now) (a .w .now) n (a .axes) (l .i) (e - l .i) (ofAxis (at .result)) on)
@@ -57,7 +58,7 @@ least-requires : tie.Need-least-requires Inv-loop μ-loop
 least-requires c κs = omega (arith, c .before .before .before .before .before .before .pre .1 .at 0)
 
 indexes-requires : tie.Need-indexes-requires Inv-loop μ-loop
-indexes-requires c κs = let w = c .before .before .before .before .before .before .before .pre .1 in record { long = w .long; at = λ i. omega (arith, w .at i) }
+indexes-requires c κs = within-less (c .before .before .before .before .before .before .before .pre .1) (omega arith)
 
 slice-aggregate-count-part : tie.Need-slice-aggregate-count-part Inv-loop μ-loop
 slice-aggregate-count-part c = search needs

@@ -14,13 +14,15 @@ use Rattle.inside_count.proofs.count_part.Statement.{statement}
 use Rattle.inside_count.proofs.count_part.Tie as tie
 
 abbrev Inv-loop : tie.InvT-loop
-Inv-loop family axes bases directions ns m w l₀ i₀ l i = (i ≤ axes) × Flags (insideFrom family bases directions w i (ofAxis ns)) m l × (length l ≡ 4096)
+Inv-loop family axes bases directions ns m w l₀ i₀ l i =
+    (i ≤ axes) × Flags (insideFrom family bases directions w i (ofAxis ns)) m l × (length l ≡ 4096)
 
 abbrev μ-loop : tie.MeasureT-loop
 μ-loop family axes bases directions ns m w l₀ i₀ l i = axes - i
 
 -- the axis's u and q stand in the window
-room : (c : tie.In-loop Inv-loop μ-loop) → (2 * c .before .loop .i + 1 < length (c .before .before .before .before .before .before .args .w .now)) × (c .before .loop .i < 6)
+room : (c : tie.In-loop Inv-loop μ-loop)
+    → (2 * c .before .loop .i + 1 < length (c .before .before .before .before .before .before .args .w .now)) × (c .before .loop .i < 6)
 room c =
     let s = c .before .before .before .before .before .before in
     (omega (arith, s .pre .3 .enough), omega (arith, s .pre .0 .few))
@@ -63,7 +65,9 @@ mul-mark-axis : tie.Need-mul-mark-axis Inv-loop μ-loop
 mul-mark-axis c = omega (arith, room (c .before .before .before .before))
 
 shared-slice-read-mark-axis : tie.Need-shared-slice-read-mark-axis Inv-loop μ-loop
-shared-slice-read-mark-axis c = omega (arith, room (c .before .before .before .before .before), c .before .before .before .before .before .before .before .before .before .before .before .pre .1 .long)
+shared-slice-read-mark-axis c =
+    let t = c .before .before .before .before .before in
+    omega (arith, room t, t .before .before .before .before .before .before .pre .1 .long)
 
 slice-aggregate-mark-axis : tie.Need-slice-aggregate-mark-axis Inv-loop μ-loop
 slice-aggregate-mark-axis c = search needs
@@ -75,7 +79,7 @@ mark-axis-requires c κs =
     (axis-at (s .pre .0) (l .i) (omega arith), s .pre .1 .at _, omega (arith, s .pre .2, l .inv .2))
 
 add-i : tie.Need-add-i Inv-loop μ-loop
-add-i c = omega (arith, c .before .before .before .before .before .before .before .before .before .before .before .before .before .before .pre .0 .few)
+add-i c = omega (arith, room (c .before .before .before .before .before .before .before .before))
 
 loop-less : tie.Need-loop-less Inv-loop μ-loop
 loop-less c = omega arith
@@ -86,10 +90,11 @@ loop-again c =
     let a = s .args in
     let l = c .before .before .before .before .before .before .before .before .before .loop in
     let d = c .before .before .before .before .before .before .before .denominator .ensures in
+    let cut = cutAt (a .w .now) (l .i) in
     let k = c .before .mark-axis .ensures in (
       omega arith,
       flags-more (a .family) (a .bases .now) (a .directions .now) (a .w .now) (ofAxis (a .ns .now)) (l .i) (a .m) _ _ _ (l .inv .1) k
-          (c .before .before .before .before .cut-limit .ensures ∙ ap (cutLimit (cutAt (a .w .now) (l .i) .u) (cutAt (a .w .now) (l .i) .q)) d) (s .pre .3 .q-pos (l .i) (omega arith)),
+          (c .before .before .before .before .cut-limit .ensures ∙ ap (cutLimit (cut .u) (cut .q)) d) (s .pre .3 .q-pos (l .i) (omega arith)),
       k .same-length ∙ l .inv .2,
     )
 
@@ -104,8 +109,9 @@ returns c =
     let a = c .before .before .before .before .before .before .before .before .args in
     let l = c .before .before .before .loop in
     let e : l .i ≡ a .axes = omega arith in
-    c .total .ensures (insideFrom (a .family) (a .bases .now) (a .directions .now) (a .w .now) (a .axes) (ofAxis (a .ns .now)))
-    (subst (λ (k : ℕ). Flags (insideFrom (a .family) (a .bases .now) (a .directions .now) (a .w .now) k (ofAxis (a .ns .now))) (a .m) (l .l)) e (l .inv .1))
+    let n = ofAxis (a .ns .now) in
+    c .total .ensures (insideFrom (a .family) (a .bases .now) (a .directions .now) (a .w .now) (a .axes) n)
+    (subst (λ (k : ℕ). Flags (insideFrom (a .family) (a .bases .now) (a .directions .now) (a .w .now) k n) (a .m) (l .l)) e (l .inv .1))
 
 pub count-part-spec : {M : Type 1} → statement M
 count-part-spec =

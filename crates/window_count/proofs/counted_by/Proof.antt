@@ -6,7 +6,7 @@ use native.Mathlib.Omega.{arith}
 use borrow.Author.Needs.{needs}
 use Rattle.state.specs.State.{runIn, genuine}
 use Rattle.calls.proofs.CaseLaws.{foreign-of, known-of}
-use Rattle.calls.proofs.PointLaws.{axes-few, known-arrays, known-run}
+use Rattle.calls.proofs.PointLaws.{axes-few, known-arrays, known-starts, known-run}
 use Rattle.window.specs.Counting.{isWindow}
 use Rattle.window.proofs.RangeLaws.{window-room}
 use Rattle.window_count.specs.Call.{counted}
@@ -19,7 +19,7 @@ is-genuine-requires c κs = search needs
 
 -- the state is tested at the start
 abbrev start : tie.After-is-genuine → tie.Start
-start c = c .before .before .before .before .before .before .before
+start c = c .before .before .before .before .before .before .before .before
 
 foreign : (c : tie.Then1) → genuine (start (c .before) .args .t1) ≡ false
 foreign c = foreign-of _ _ (c .before .is-genuine .ensures) (c .if1 .taken)
@@ -50,18 +50,18 @@ returns-2 c = c .refused2 .ensures ∙ sym (count-off _ _ (known (c .before .bef
 
 -- where the points are counted, the window is taken
 abbrev taken : tie.After-inside-by → tie.Else2
-taken c = c .before .before .before .before .before .before
+taken c = c .before .before .before .before .before .before .before .before
 
 inside-by-requires : tie.Need-inside-by-requires
 inside-by-requires c κs =
-    let w = c .before .before .before .before .before in
+    let w = c .before .before .before .before .before .before .before in
     let k = known (w .before .before) in
-    (known-arrays _ k, omega (arith, known-run _ k), window-room _ _ (fits w))
+    (known-arrays _ k, known-run _ k .0, window-room _ _ (fits w))
 
 bound-requires : tie.Need-bound-requires
 bound-requires c κs =
     let k = known (taken (c .before .before .before .before .before) .before .before) in
-    (known-arrays _ k, omega (arith, known-run _ k .0))
+    (known-arrays _ k, omega (arith, known-run _ k .0 .at 0))
 
 answer : {i i′ b b′ : ℕ} → i ≡ i′ → b ≡ b′ → counted 0 i b ≡ counted 0 i′ b′
 answer e f = λ j. counted 0 (e j) (f j)
@@ -71,7 +71,7 @@ returns-3 c =
     let p = c .before .before .before .before .before .before in
     let k = known (taken p .before .before) in
     let a = start (taken p .before .before .before) .args in
-    answer (p .inside-by .ensures ∙ count-in-arrays (a .t1) (a .w .now) k (runIn (a .t1))) (c .bound .ensures ∙ bound-known (a .t1) (a .w .now) k (a .t1 .count))
+    answer (p .inside-by .ensures ∙ count-in-arrays (a .t1) (a .w .now) k (runIn (a .t1)) (known-starts (a .t1) k)) (c .bound .ensures ∙ bound-known (a .t1) (a .w .now) k (a .t1 .count))
     ∙ sym (count-done _ _ k (fits (taken p)))
 
 pub counted-by-spec : {M : Type 1} → statement M
