@@ -8,7 +8,7 @@ use native.Mathlib.Nat.{min-le-left}
 use native.Mathlib.Numerals.{add-one}
 use native.Mathlib.Omega.{arith}
 use lib.ListN.{length, replicate, length-replicate}
-use borrow.Author.Tests.{not-true, not-false}
+use borrow.Author.Tests.{not-true}
 use Rattle.bits.specs.Stream.{AllBelow}
 use Rattle.plan.specs.Plan.{Plan, Valid, spell}
 use Rattle.plan.specs.Reading.{Reading, refused, accepted, readPlan}
@@ -16,9 +16,9 @@ use Rattle.plan.specs.Order.{Condition, _when_, firstDue}
 use Rattle.plan.proofs.SpellingLaws.{spell-below}
 use Rattle.plan.proofs.AcceptLaws.{accepted-iff, read-spelled}
 use Rattle.plan.proofs.RefusalLaws.{refused-range}
-use Rattle.plan.proofs.OrderLaws.{none-given, none-due, other-due, first-iff}
+use Rattle.plan.proofs.OrderLaws.{none-given, other-due, first-iff}
 use Rattle.points.specs.Point.{axisCount}
-use Rattle.points.specs.Run.{Run, oneStart, inRange, hasStarts, Opens}
+use Rattle.points.specs.Run.{Run, oneStart, Opens}
 use Rattle.points.proofs.PointLaws.{axis-count}
 use Rattle.points.proofs.RunLaws.{opens-long, one-opens}
 use Rattle.state.specs.State.{made, planIn, runIn, genuine}

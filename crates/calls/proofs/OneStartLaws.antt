@@ -1,10 +1,10 @@
 -- One start repeated is the run as it was before 02's K6: its opening, its steps and its blocks answer the same, and its points are those of the
 -- indexes from the start on. Assumes nothing.
 use mathlib.Core.Path.{_≡_, refl, sym, ap, ap₂, _∙_, subst}
-use mathlib.Core.Bool.{true, false, cond}
+use mathlib.Core.Bool.{true, false}
 use mathlib.Core.Logic.{_⊎_, inl, inr}
 use mathlib.Core.List.{List, _++_}
-use Prim.Native.Nat.{ℕ, zero, suc, _+_, _-_, _*_, _/_, _^_, _≤_, _<_}
+use Prim.Native.Nat.{ℕ, zero, suc, _+_, _-_, _*_, _/_, _^_, _≤_}
 use native.Mathlib.Nat.{add-assoc, min-le-left}
 use native.Mathlib.Omega.{arith}
 use lib.ListN.{length, drop}
@@ -12,15 +12,15 @@ use Rattle.numbers.specs.Listed.{joined}
 use Rattle.numbers.proofs.Cases.{true-or-false}
 use Rattle.plan.specs.Order.{firstDue, unlessDue}
 use Rattle.plan.specs.Plan.{Plan, Valid}
-use Rattle.points.specs.Point.{axisCount, pointOf}
-use Rattle.points.specs.Run.{Run, oneStart, inRange, startInRange, Opens, runPoint}
+use Rattle.points.specs.Point.{pointOf}
+use Rattle.points.specs.Run.{Run, oneStart, inRange, startInRange, runPoint}
 use Rattle.points.proofs.PointLaws.{axis-count}
 use Rattle.points.proofs.RunLaws.{start-is, opens-long, one-range, one-has, one-opens, one-point}
 use Rattle.state.specs.State.{made, planIn, runIn, genuine}
 use Rattle.state.specs.declared.Sampler.{Sampler}
 use Rattle.state.proofs.PlanLaws.{plan-in-made, run-in-made}
 use Rattle.state.proofs.GenuineLaws.{Genuine, genuine-is, made-genuine}
-use Rattle.calls.specs.Calls.{moved, openSpec, jumpBuf, runRefusals, stepSpec, stepBuf, blockSize, blockSpec, blockBuf}
+use Rattle.calls.specs.Calls.{openSpec, jumpBuf, runRefusals, stepSpec, stepBuf, blockSize, blockSpec, blockBuf}
 use Rattle.calls.specs.OneStart.{oneOpen, HasOne, AsBefore}
 use Rattle.calls.proofs.CaseLaws.{open-foreign, open-out, open-accepted, open-done, jump-done, run-cleared, step-refused, step-done, block-refused, block-done}
 use Rattle.calls.proofs.PointLaws.{axes-are, axes-few, known-has}

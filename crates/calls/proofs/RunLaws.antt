@@ -84,8 +84,8 @@ module _ (p : Plan) (v : Valid p) (r : Run) (fits : Opens p r) where
         let long = listed-length (numeratorOf p n) (axisCount p) in (
           ap (λ (x : _). x .code) (a .0),
           ap (λ (x : List ℕ). getD x i 0) (a .1)
-          ∙ List·getD-append (listed (numeratorOf p n) (axisCount p)) (drop (axisCount p) buf) 0 i (omega (arith, long))
-          ∙ listed-at (numeratorOf p n) (axisCount p) i l ∙ sym (listed-at (λ j. numeratorOf p (indexAt r j k) j) (axisCount p) i l),
+              ∙ List·getD-append (listed (numeratorOf p n) (axisCount p)) (drop (axisCount p) buf) 0 i (omega (arith, long))
+              ∙ listed-at (numeratorOf p n) (axisCount p) i l ∙ sym (listed-at (λ j. numeratorOf p (indexAt r j k) j) (axisCount p) i l),
         )
 
   pub second-at : (taken : ℕ) → taken ≤ r .count → (n : ℕ) → n < 2 ^ 32

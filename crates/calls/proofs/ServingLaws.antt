@@ -1,9 +1,8 @@
 -- Demand 2 by the calls' own answers: after an accepted reading and an accepted opening, any steps and blocks serve the points of the plan that was
 -- read, each axis from its start on, exactly as many as the run has, and then 12; and jumps give the same numerators. Assumes nothing.
 use mathlib.Core.Path.{_≡_, refl, sym, ap, _∙_, subst}
-use mathlib.Core.Bool.{true}
 use mathlib.Core.Logic.{_↔_, _⊎_, ⊎-elim}
-use mathlib.Core.List.{List, []}
+use mathlib.Core.List.{List}
 use Prim.Native.Nat.{ℕ, zero, suc, _+_, _-_, _*_, _/_, _≤_, _<_, min}
 use native.Mathlib.Nat.{add-zero, zero-mul, min-le-left}
 use native.Mathlib.Omega.{arith}

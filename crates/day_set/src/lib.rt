@@ -3,7 +3,6 @@ use state::Sampler;
 ghost use mathlib.Core.Path.{_≡_};
 ghost use lib.ListN.{length};
 ghost use Rattle.day_set.specs.DaySet.{dayBlank, fromZero};
-ghost use Rattle.day_set.specs.Calls.{dayMoved};
 
 // A day set of N points: a sampler whose run has start 0 on each axis and count N.
 pub struct DaySet {

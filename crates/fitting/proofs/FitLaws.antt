@@ -94,7 +94,7 @@ module _ (ps vs : List ℕ) where
 -- ---- the next point
 
 module _ {p : Plan} {family axes : ℕ} {bases vs : List ℕ} (h : Holds p family axes bases vs) (v : Valid p) (x starts : List ℕ) (r : Run)
-  (e : starts ≡ padded 6 (r .starts)) (taken : ℕ) where
+    (e : starts ≡ padded 6 (r .starts)) (taken : ℕ) where
   abbrev six : Run
   six = runOf starts (r .count)
 
@@ -130,7 +130,7 @@ module _ {p : Plan} {family axes : ℕ} {bases vs : List ℕ} (h : Holds p famil
 -- ---- the run
 
 module _ {family axes : ℕ} {starts : List ℕ} {count taken : ℕ} (few : OneToSix axes) (long : length starts ≡ 6)
-  (f : FitRun family axes starts count taken) where
+    (f : FitRun family axes starts count taken) where
   -- zeros follow the starts
   starts-are : starts ≡ padded 6 (take axes starts)
   starts-are =

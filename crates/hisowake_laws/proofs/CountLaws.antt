@@ -39,7 +39,7 @@ use Rattle.c_refusals.proofs.RefusalLaws.{count-zero}
 use Rattle.hisowake.proofs.CountLaws.{window-bytes}
 
 module _ (plan : List ℕ) (below : AllBelow 256 plan) (p : Plan) (e : readPlan plan ≡ accepted p) (start many : ℕ) (window out : List ℕ)
-  (long : length window ≡ 8 * axisCount p) where
+    (long : length window ≡ 8 * axisCount p) where
   -- the numbers of the window's bytes
   abbrev w : List ℕ
   w = windowIn window (axisCount p)

@@ -102,16 +102,7 @@ pub fn block_rows(s: Sampler, lead: usize, out: &mut [u64]) -> Blocked
     }
     let k = block_size(s.count - s.taken, out.len(), width);
     let ns = points::indexes(&s.starts, s.taken);
-    blocks::fill(
-        out,
-        lead,
-        s.family,
-        axes,
-        &s.bases,
-        &s.directions,
-        &ns,
-        k,
-    );
+    blocks::fill(out, lead, s.family, axes, &s.bases, &s.directions, &ns, k);
     let taken = s.taken + (k as u64);
     let next = state::next_point(
         s.family,

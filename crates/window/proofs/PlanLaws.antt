@@ -22,9 +22,8 @@ use Rattle.discrepancy.proofs.FitLaws.{bound-fits}
 use Rattle.plan.specs.Plan.{Plan, halton, sobol, Valid}
 use Rattle.points.specs.Point.{axisCount}
 use Rattle.points.specs.Run.{Run, indexAt, runNumerator}
-use Rattle.points.specs.Arrays.{familyOf, basesArray, directionsArray, ofAxis}
+use Rattle.points.specs.Arrays.{familyOf, basesArray, directionsArray}
 use Rattle.points.proofs.ArrayLaws.{numerator-at-plan, denominator-at-plan}
-use Rattle.points.proofs.RunLaws.{index-padded}
 use Rattle.window.specs.Counting.{Cut, noCut, uOf, qOf, axisInside, stepInside, insideCount, baseAt, cutAxes, runAxes, boundOf, cutAt, cutsOf}
 use Rattle.window.specs.Walking.{axisInsideBy, insideFrom, boundBy}
 

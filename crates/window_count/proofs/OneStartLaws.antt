@@ -9,9 +9,9 @@ use Rattle.numbers.proofs.EachLaws.{each-ext}
 use Rattle.plan.specs.Order.{firstDue, unlessDue}
 use Rattle.plan.specs.Plan.{Plan}
 use Rattle.points.specs.Point.{axisCount, numeratorOf, denominatorOf}
-use Rattle.points.specs.Run.{Run, oneStart, runNumerator}
+use Rattle.points.specs.Run.{oneStart, runNumerator}
 use Rattle.points.proofs.RunLaws.{one-index}
-use Rattle.state.specs.State.{planIn, runIn}
+use Rattle.state.specs.State.{planIn}
 use Rattle.state.specs.declared.Sampler.{Sampler}
 use Rattle.calls.specs.OneStart.{HasOne}
 use Rattle.window.specs.Counting.{Cut, noCut, inCut, axisInside, stepInside, insideCount, boundOf, cutsOf}

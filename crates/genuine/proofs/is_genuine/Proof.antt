@@ -1,6 +1,5 @@
 -- The first part that fails decides; the last decides where the others hold. Assumes nothing.
 use native.Mathlib.Omega.{arith}
-use borrow.Author.Needs.{needs}
 use borrow.Author.Tests.{not-true, not-false}
 use denote.Ref.{now}
 use Rattle.state.specs.State.{stateOf}

@@ -3,7 +3,6 @@ use mathlib.Core.Path.{_≡_, refl, sym, ap, _∙_}
 use mathlib.Core.Bool.{true, false}
 use native.Mathlib.Omega.{arith}
 use borrow.Author.Needs.{needs}
-use lib.ListN.{length}
 use Rattle.points.specs.Run.{runOf, inRange, hasStarts, Opens}
 use Rattle.points.proofs.RunLaws.{starts-long, opens-within}
 use Rattle.state.specs.State.{planIn, genuine}

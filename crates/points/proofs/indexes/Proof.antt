@@ -1,12 +1,12 @@
 -- `points::indexes` meets its contract: the first i words are the indexes of the first i axes, and zeros follow. Assumes nothing.
-use mathlib.Core.Path.{_≡_, refl, sym, ap, _∙_}
+use mathlib.Core.Path.{_≡_, refl, ap, _∙_}
 use mathlib.Core.List.{List}
 use Prim.Native.Nat.{ℕ, _+_, _-_, _≤_}
 use native.Mathlib.Omega.{arith}
 use lib.ListN.{length, getD, set, length-set}
 use Rattle.numbers.specs.Listed.{listed, padded}
 use Rattle.numbers.proofs.ListedLaws.{listed-store}
-use Rattle.points.specs.Run.{runOf, indexesAt}
+use Rattle.points.specs.Run.{runOf}
 use Rattle.points.proofs.RunLaws.{indexes-of-six}
 use Rattle.points.proofs.indexes.Statement.{statement}
 use Rattle.points.proofs.indexes.Tie as tie

@@ -1,12 +1,8 @@
 -- `state::next_point` meets its contract: the test picks the point or the zeros as the contract does. Assumes nothing.
-use mathlib.Core.Path.{_≡_, refl, ap, _∙_}
-use Prim.Native.Nat.{ℕ, _<_}
+use mathlib.Core.Path.{refl, _∙_}
 use native.Mathlib.Omega.{arith}
 use borrow.Author.Needs.{needs}
 use borrow.Author.Tests.{lt-ltb, le-ltb}
-use lib.ListN.{getD}
-use Rattle.points.specs.Arrays.{Within}
-use Rattle.points.specs.Run.{runOf, indexAt}
 use Rattle.points.proofs.RunLaws.{within-less, within-on, six-at}
 use Rattle.points.proofs.WordLaws.{point-at-same}
 use Rattle.state.proofs.next_point.Statement.{statement}
