@@ -32,10 +32,10 @@ pub fn write(c: Console, out: &mut [u8], bytes: &mut [u8]) -> Console
 }
 
 // The state with this run.
-pub fn open(c: Console, out: &mut [u8], count: u64, start: u64) -> Console
-    ensures { λ r. ⌜ Holds r (openSpec (c .state) (runOf start count) .state) (c .day) ⌝ }
+pub fn open(c: Console, out: &mut [u8], count: u64, starts: &[u64]) -> Console
+    ensures { λ r. ⌜ Holds r (openSpec (c .state) (runOf (now (starts .entry)) count) .state) (c .day) ⌝ }
 {
-    let m = sampler::open(c.state, start, count);
+    let m = sampler::open(c.state, starts, count);
     let state = m.state;
     let lines = console_text::answer(c.lines, out, b"open", &[m.code], &[]);
     console_text::with_state(c, lines, state)
@@ -135,7 +135,7 @@ pub fn show(c: Console, out: &mut [u8], name: &[u8], s: Sampler) -> Console
 
 // The state with a word set.
 pub fn poke(c: Console, out: &mut [u8], place: usize, value: u64) -> Console
-    requires { ⌜ place < 215 ⌝ }
+    requires { ⌜ place < 220 ⌝ }
     ensures { λ r. ⌜ Holds r (poked (c .state) place value) (c .day) ⌝ }
 {
     let state = state_words::poke(c.state, place, value);

@@ -62,7 +62,7 @@ pub fn count(c: Console, out: &mut [u8], window: &[u64]) -> Console
 
 // The day set with a word set.
 pub fn poke(c: Console, out: &mut [u8], place: usize, value: u64) -> Console
-    requires { ⌜ place < 215 ⌝ }
+    requires { ⌜ place < 220 ⌝ }
     ensures { λ r. ⌜ Holds r (c .state) (dayOf (poked (c .day .run) place value)) ⌝ }
 {
     let d = c.day;

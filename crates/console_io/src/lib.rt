@@ -92,7 +92,7 @@ fn plan_line(c: Console, out: &mut [u8], key: &[u8], rest: &[u8]) -> Console
         return console_lines::write(c, out, rest);
     }
     if check::same(key, b"open") {
-        return console_lines::open(c, out, rest);
+        return console_lines::open(c, out, b"open COUNT START ..", rest);
     }
     if check::same(key, b"jump") {
         return console_lines::jump(c, out, Held::State, b"jump INDEX ROOM", rest);

@@ -92,8 +92,8 @@ pub fn poke(c: Console, out: &mut [u8], of: Held, form: &[u8], rest: &[u8]) -> C
     let Numbers::Read = r else {
         return console_text::misread(c, out, form, r);
     };
-    if 214 < n[0] {
-        return console_text::error(c, out, b"PLACE to be at most 214");
+    if 219 < n[0] {
+        return console_text::error(c, out, b"PLACE to be at most 219");
     }
     if let Held::DaySet = of {
         return console_day::poke(c, out, n[0] as usize, n[1]);

@@ -52,12 +52,26 @@ pub fn write(c: Console, out: &mut [u8], rest: &[u8]) -> Console {
     console_calls::write(c, out, &mut bytes[..room])
 }
 
-// `open COUNT START`.
-pub fn open(c: Console, out: &mut [u8], rest: &[u8]) -> Console {
-    let mut n = [0u64; 2];
-    let r = console_text::read_numbers(rest, &mut n);
+// Opens the run of a line's words: its count, then its starts.
+fn run(c: Console, out: &mut [u8], form: &[u8], rest: &[u8], n: &mut [u64]) -> Console
+    requires { ⌜ 1 ≤ length (now n) ⌝ }
+{
+    let r = console_text::read_numbers(rest, n);
     let Numbers::Read = r else {
-        return console_text::misread(c, out, b"open COUNT START", r);
+        return console_text::misread(c, out, form, r);
     };
-    console_calls::open(c, out, n[0], n[1])
+    console_calls::open(c, out, n[0], &n[1..])
+}
+
+// `open COUNT START ..`: any number of starts, none included. A line has less than 512 words.
+pub fn open(c: Console, out: &mut [u8], form: &[u8], rest: &[u8]) -> Console {
+    let k = words::count(rest, 0);
+    if k < 1 {
+        return console_text::misread(c, out, form, Numbers::Words(k));
+    }
+    if 512 < k {
+        return console_text::error(c, out, b"at most 512 numbers");
+    }
+    let mut n = [0u64; 512];
+    run(c, out, form, rest, &mut n[..k])
 }

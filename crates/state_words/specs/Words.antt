@@ -1,4 +1,4 @@
--- A state as a row of 215 words, in the struct's order, and one of them set. Definitions only.
+-- A state as a row of 220 words, in the struct's order, and one of them set. Definitions only.
 use mathlib.Core.List.{List, [], _∷_, _++_}
 use Prim.Native.Nat.{ℕ}
 use lib.ListN.{take, drop, getD, set}
@@ -7,7 +7,7 @@ use Rattle.state.specs.declared.Sampler.{Sampler}
 -- every word of a state
 unfoldable pub wordsOf : Sampler → List ℕ
 wordsOf s =
-    (s .family ∷ s .axes ∷ []) ++ s .bases ++ s .polynomials ++ s .directions ++ (s .start ∷ s .count ∷ s .taken ∷ []) ++ s .numerators
+    (s .family ∷ s .axes ∷ []) ++ s .bases ++ s .polynomials ++ s .directions ++ s .starts ++ (s .count ∷ s .taken ∷ []) ++ s .numerators
 
 -- n words of a list, from a place on
 abbrev pub part : List ℕ → ℕ → ℕ → List ℕ
@@ -21,10 +21,10 @@ fromWords l = record {
   bases = part l 2 6;
   polynomials = part l 8 6;
   directions = part l 14 192;
-  start = getD l 206 0;
-  count = getD l 207 0;
-  taken = getD l 208 0;
-  numerators = part l 209 6;
+  starts = part l 206 6;
+  count = getD l 212 0;
+  taken = getD l 213 0;
+  numerators = part l 214 6;
 }
 
 -- the word at a place, from 0

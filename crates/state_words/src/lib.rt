@@ -6,22 +6,24 @@ ghost use lib.ListN.{length};
 ghost use Rattle.state_words.specs.Words.{wordsOf, part, fromWords, poked};
 
 // Every word of a state.
-pub fn words_of(s: Sampler) -> [u64; 215]
+pub fn words_of(s: Sampler) -> [u64; 220]
     ensures { λ r. ⌜ r ≡ wordsOf s ⌝ }
 {
     let front = [s.family, s.axes as u64];
     let bases = s.bases;
     let polynomials = s.polynomials;
     let directions = s.directions;
-    let run = [s.start, s.count, s.taken];
+    let starts = s.starts;
+    let run = [s.count, s.taken];
     let numerators = s.numerators;
-    let mut words = [0u64; 215];
+    let mut words = [0u64; 220];
     bits::store(&mut words, 0, &front);
     bits::store(&mut words, 2, &bases);
     bits::store(&mut words, 8, &polynomials);
     bits::store(&mut words, 14, &directions);
-    bits::store(&mut words, 206, &run);
-    bits::store(&mut words, 209, &numerators);
+    bits::store(&mut words, 206, &starts);
+    bits::store(&mut words, 212, &run);
+    bits::store(&mut words, 214, &numerators);
     words
 }
 
@@ -38,7 +40,7 @@ fn six(words: &[u64], at: usize) -> [u64; 6]
 
 // The direction numbers' words.
 fn table(words: &[u64]) -> [u64; 192]
-    requires { ⌜ length (now words) ≡ 215 ⌝ }
+    requires { ⌜ length (now words) ≡ 220 ⌝ }
     ensures { λ r. ⌜ r ≡ part (now (words .entry)) 14 192 ⌝ }
 {
     let mut row = [0u64; 192];
@@ -48,7 +50,7 @@ fn table(words: &[u64]) -> [u64; 192]
 
 // The state that has these words.
 fn state_of(words: &[u64]) -> Sampler
-    requires { ⌜ length (now words) ≡ 215 ⌝ }
+    requires { ⌜ length (now words) ≡ 220 ⌝ }
     ensures { λ r. ⌜ r ≡ fromWords (now (words .entry)) ⌝ }
 {
     Sampler {
@@ -57,16 +59,16 @@ fn state_of(words: &[u64]) -> Sampler
         bases: six(words, 2),
         polynomials: six(words, 8),
         directions: table(words),
-        start: words[206],
-        count: words[207],
-        taken: words[208],
-        numerators: six(words, 209),
+        starts: six(words, 206),
+        count: words[212],
+        taken: words[213],
+        numerators: six(words, 214),
     }
 }
 
 // The state with a word set, by its place from 0.
 pub fn poke(s: Sampler, place: usize, value: u64) -> Sampler
-    requires { ⌜ place < 215 ⌝ }
+    requires { ⌜ place < 220 ⌝ }
     ensures { λ r. ⌜ r ≡ poked s place value ⌝ }
 {
     let mut words = words_of(s);

@@ -20,21 +20,23 @@ six-requires-2 c κs = search needs
 table-requires : tie.Need-table-requires
 table-requires c κs = search needs
 
-shared-slice-read-t11 : tie.Need-shared-slice-read-t11
-shared-slice-read-t11 c = search needs
-
-shared-slice-read-t13 : tie.Need-shared-slice-read-t13
-shared-slice-read-t13 c = search needs
-
-shared-slice-read-t15 : tie.Need-shared-slice-read-t15
-shared-slice-read-t15 c = search needs
-
 six-requires-3 : tie.Need-six-requires-3
 six-requires-3 c κs = search needs
 
+shared-slice-read-t12 : tie.Need-shared-slice-read-t12
+shared-slice-read-t12 c = search needs
+
+shared-slice-read-t14 : tie.Need-shared-slice-read-t14
+shared-slice-read-t14 c = search needs
+
+six-requires-4 : tie.Need-six-requires-4
+six-requires-4 c κs = search needs
+
 returns : tie.Need-returns
 unfolding fromWords
-returns c = rw (c .six3 .ensures, c .before .before .before .before .table .ensures, c .before .before .before .before .before .six2 .ensures, c .before .before .before .before .before .before .six .ensures) refl
+returns c =
+    let l = c .before .before .before in
+    rw (c .six4 .ensures, l .six3 .ensures, l .before .table .ensures, l .before .before .six2 .ensures, l .before .before .before .six .ensures) refl
 
 pub state-of-spec : {M : Type 1} → statement M
 state-of-spec =
@@ -45,8 +47,8 @@ state-of-spec =
     six-requires
     six-requires-2
     table-requires
-    shared-slice-read-t11
-    shared-slice-read-t13
-    shared-slice-read-t15
     six-requires-3
+    shared-slice-read-t12
+    shared-slice-read-t14
+    six-requires-4
     returns)
