@@ -12,7 +12,6 @@ use Rattle.columns.proofs.ColumnLaws.{columns-unchanged, front-list, front-row}
 use Rattle.plan.specs.Order.{firstDue, unlessNumber}
 use Rattle.points.specs.Point.{pointOf}
 use Rattle.points.specs.Run.{runPoint, runNumerator}
-use Rattle.points.proofs.RunLaws.{run-point}
 use Rattle.state.specs.State.{planIn, runIn, genuine}
 use Rattle.state.specs.declared.Sampler.{Sampler}
 use Rattle.calls.specs.Calls.{rowsRefusals, rowsSize, rowsSpec, rowNumerator}
@@ -20,10 +19,10 @@ use Rattle.calls.specs.declared.Blocked.{Blocked}
 use Rattle.calls.proofs.CaseLaws.{run-cleared, rows-refused, rows-done}
 use Rattle.calls.proofs.PointLaws.{axes-are, axes-few, known-run}
 use Rattle.calls.proofs.RowLaws.{rows-fit}
-use Rattle.day_set.specs.DaySet.{dayPoint, dayPoints, dayPlan, dayTaken, dayWidth}
+use Rattle.day_set.specs.DaySet.{dayPoint, dayPoints, dayPlan, dayTaken, dayWidth, fromZero}
 use Rattle.day_set.specs.Calls.{dayBlockBuf}
 use Rattle.day_set.specs.declared.DaySet.{DaySet}
-use Rattle.day_set.proofs.CaseLaws.{block-wraps}
+use Rattle.day_set.proofs.CaseLaws.{point-is, block-wraps}
 
 module _ (s : Sampler) (buf : List ℕ) where
   code-is : {n : ℕ} → rowsSpec 1 s buf .code ≡ n → firstDue (rowsRefusals 1 s buf) ≡ n
@@ -43,20 +42,17 @@ module _ (s : Sampler) (buf : List ℕ) (z : rowsSpec 1 s buf .code ≡ 0) where
       let is : rowsSpec 1 s buf .points ≡ rowsSize 1 s buf = ap (λ (a : Blocked). a .points) (rows-done 1 s buf none) in
       let f = rows-fit (s .count - s .taken) (length buf) (1 + s .axes) (rowsSize 1 s buf) refl in
       let r = known-run s rows-known in
-      rw is (axes-few s rows-known .1, f .1, omega (arith, f .0, r))
+      rw is (axes-few s rows-known .1, f .1, omega (arith, f .0, r .0 .at 0, r .1))
 
-module _ (d : DaySet) (e : d .run .start ≡ 0) where
+module _ (d : DaySet) (e : fromZero (d .run .starts) ≡ true) where
   -- a row is a point with its number
   one-row : genuine (d .run) ≡ true → (k : ℕ)
       → listed (λ a. inFront (_+_ (dayTaken d)) (rowNumerator (d .run)) a k) (dayWidth d) ≡ dayPoint (dayPlan d) (dayTaken d + k)
   unfolding rowNumerator dayPoint runPoint
   one-row g k =
-      let none : 0 + (dayTaken d + k) ≡ dayTaken d + k = omega arith in
       front-row (rowNumerator (d .run)) (_+_ (dayTaken d)) k (dayWidth d) (d .run .axes) (omega arith)
       ∙ ap (λ (x : List ℕ). (dayTaken d + k) ∷ x)
-      (ap (listed (runNumerator (dayPlan d) (runIn (d .run)) (dayTaken d + k))) (axes-are (d .run) g)
-      ∙ run-point (dayPlan d) (runIn (d .run)) (dayTaken d + k)
-      ∙ rw (e, none) refl)
+      (ap (listed (runNumerator (dayPlan d) (runIn (d .run)) (dayTaken d + k))) (axes-are (d .run) g) ∙ point-is (d .run) g e (dayTaken d + k))
 
   rows-are : genuine (d .run) ≡ true → (k : ℕ) → rows (inFront (_+_ (dayTaken d)) (rowNumerator (d .run))) (dayWidth d) k ≡ dayPoints (dayPlan d) (dayTaken d) k
   unfolding rows joined

@@ -1,4 +1,4 @@
-// The calls that make and serve a day set. Each tests that the run starts at 0, and leaves the other tests to its run twin.
+// The calls that make and serve a day set. Each tests that the run starts at 0 on each axis, and leaves the other tests to its run twin.
 use calls::Jumped;
 use day_set::DayBlocked;
 use day_set::DayMoved;
@@ -16,7 +16,9 @@ ghost use Rattle.day_set.specs.Calls.{makeSpec, dayJumpSpec, dayJumpBuf, daySte
 pub fn make_day_set(s: Sampler, size: u64) -> DayMoved
     ensures { λ r. ⌜ r ≡ makeSpec s size ⌝ }
 {
-    let r = plan_calls::open(s, 0, size);
+    let zeros = [0u64; 6];
+    let axes = columns::least(s.axes, 6);
+    let r = plan_calls::open(s, &zeros[..axes], size);
     if r.code != 0 {
         return DayMoved {
             code: r.code,
@@ -53,7 +55,7 @@ pub fn day_jump(d: DaySet, n: u64, out: &mut [u64]) -> Jumped
     ensures { λ r. ⌜ (r ≡ dayJumpSpec d n (now (out .entry))) × (now (out .exit) ≡ dayJumpBuf d n (now (out .entry))) ⌝ }
 {
     let s = d.run;
-    if s.start != 0 {
+    if !day_set::from_zero(&s.starts) {
         return Jumped {
             code: refusal::INVALID_STATE,
         };
@@ -70,7 +72,7 @@ pub fn day_step(d: DaySet, out: &mut [u64]) -> DayMoved
     ensures { λ r. ⌜ (r ≡ dayStepSpec d (now (out .entry))) × (now (out .exit) ≡ dayStepBuf d (now (out .entry))) ⌝ }
 {
     let run = d.run;
-    if run.start != 0 {
+    if !day_set::from_zero(&run.starts) {
         return DayMoved {
             code: refusal::INVALID_STATE,
             set: d,
@@ -103,7 +105,7 @@ pub fn day_block(d: DaySet, out: &mut [u64]) -> DayBlocked
     ensures { λ r. ⌜ (r ≡ dayBlockSpec d (now (out .entry))) × (now (out .exit) ≡ dayBlockBuf d (now (out .entry))) ⌝ }
 {
     let s = d.run;
-    if s.start != 0 {
+    if !day_set::from_zero(&s.starts) {
         return DayBlocked {
             code: refusal::INVALID_STATE,
             points: 0,

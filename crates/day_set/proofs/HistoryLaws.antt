@@ -12,35 +12,35 @@ use lib.ListN.{length, replicate, length-replicate}
 use Rattle.plan.specs.Plan.{Plan, Valid, spell}
 use Rattle.plan.specs.Order.{Condition, _when_, firstDue}
 use Rattle.plan.proofs.OrderLaws.{other-due}
-use Rattle.points.specs.Run.{runOf}
-use Rattle.points.proofs.RunLaws.{range-is, is-range}
-use Rattle.state.specs.State.{made, runIn}
+use Rattle.points.specs.Run.{Run, oneStart}
+use Rattle.points.proofs.RunLaws.{opens-count}
+use Rattle.state.specs.State.{made}
 use Rattle.state.specs.declared.Sampler.{Sampler}
 use Rattle.state.proofs.GenuineLaws.{genuine-is}
 use Rattle.calls.specs.History.{AfterCalls}
 use Rattle.calls.proofs.CaseLaws.{run-cleared}
 use Rattle.calls.proofs.HistoryLaws.{test-iff, foreign-iff, none-15, run-test-iff, Leaves, of-made, leaves-genuine, leaves-plan, none-opened, after-leaves, after-steps}
-use Rattle.day_set.specs.DaySet.{dayOf, dayRun, dayMade, dayPlan, daySize, dayTaken, dayWidth, genuineDay}
+use Rattle.day_set.specs.DaySet.{dayOf, dayRun, dayMade, dayPlan, daySize, dayTaken, dayWidth, fromZero, genuineDay}
 use Rattle.day_set.specs.Calls.{foreignDay, makeSpec, dayJumpSpec, dayRunRefusals, dayStepSpec, dayBlockSize, dayBlockSpec}
 use Rattle.day_set.specs.History.{DayAfter, make, stepped, filled, DayAfterCalls}
 use Rattle.day_set.specs.Serving.{widthOf}
 use Rattle.day_set.specs.declared.DaySet.{DaySet}
-use Rattle.day_set.proofs.CaseLaws.{by-run, day-is}
+use Rattle.day_set.proofs.CaseLaws.{by-run, day-is, run-is}
 use Rattle.day_set.proofs.OrderLaws.{make-accepted, make-done, day-step-done, day-block-done}
-use Rattle.day_set.proofs.DayLaws.{make-at, day-step-at}
+use Rattle.day_set.proofs.DayLaws.{make-at, day-opens, day-genuine, day-step-at}
 
--- ---- accepted calls leave a sampler of the plan that was read, whose run starts at 0
+-- ---- accepted calls leave a sampler of the plan that was read, whose run starts at 0 on each axis
 
 pub record DayLeaves (bytes : List ℕ) (d : DaySet) : Type 0 where
   pub run : Leaves bytes (d .run)
-  pub start : d .run .start ≡ 0
+  pub start : fromZero (d .run .starts) ≡ true
 
 day-of-made : {bytes : List ℕ} {d : DaySet} (p : Plan) → Valid p → bytes ≡ spell p → (N : ℕ) → N ≤ 2 ^ 32 → (taken : ℕ) → taken ≤ N → d ≡ dayMade p N taken
     → DayLeaves bytes d
-unfolding dayMade made
+unfolding dayMade
 day-of-made p v e N fits taken h is = record {
-  run = of-made p v e (dayRun N) taken (record { in-range = is-range (dayRun N) (omega arith); not-past = h }) (ap (λ (d : DaySet). d .run) is);
-  start = ap (λ (d : DaySet). d .run .start) is;
+  run = of-made p v e (dayRun p N) taken (record { opens = day-opens p v N fits; not-past = unfold oneStart in h }) (ap (λ (d : DaySet). d .run) is);
+  start = ap (λ (d : DaySet). fromZero (d .run .starts)) is ∙ day-is (dayMade p N taken) (day-genuine p v N fits taken h) .0;
 }
 
 module _ {bytes : List ℕ} {d : DaySet} (l : DayLeaves bytes d) where
@@ -48,7 +48,7 @@ module _ {bytes : List ℕ} {d : DaySet} (l : DayLeaves bytes d) where
   day-leaves-genuine = by-run d (l .start) ∙ leaves-genuine (l .run)
 
   size-fits : daySize d ≤ 2 ^ 32
-  size-fits = omega (arith, range-is (runIn (d .run)) (l .run .run .in-range))
+  size-fits = opens-count (l .run .run .opens) (l .run .valid)
 
   -- a day set with the same plan and size
   next : {t : DaySet} (taken : ℕ) → taken ≤ daySize d → t ≡ dayMade (dayPlan d) (daySize d) taken → DayLeaves bytes t
@@ -82,8 +82,9 @@ day-after-leaves (filled {d} h buf z) =
 module _ (p : Plan) (v : Valid p) (N : ℕ) (fits : N ≤ 2 ^ 32) where
   day-after-making : DayAfter (spell p) (dayMade p N 0)
   day-after-making =
-      let h = after-steps p v (runOf 0 0) (none-opened .in-range) 0 (omega arith) in
-      let e = make-at p v (runOf 0 0) (none-opened .in-range) 0 (omega arith) N fits in
+      let o = none-opened p v .opens in
+      let h = after-steps p v (oneStart p 0 0) o 0 (omega arith) in
+      let e = make-at p v (oneStart p 0 0) o 0 (omega arith) N fits in
       subst (DayAfter (spell p)) (ap (λ (a : _). a .set) e) (make h N (ap (λ (a : _). a .code) e))
 
   pub day-after-steps : (taken : ℕ) → taken ≤ N → DayAfter (spell p) (dayMade p N taken)
@@ -101,9 +102,9 @@ day-after-iff d = (
   λ e.
       let s = day-is d e in
       let g = genuine-is (d .run) (s .1) in
-      let fits : daySize d ≤ 2 ^ 32 = omega (arith, range-is (runIn (d .run)) (g .run .in-range)) in
+      let fits : daySize d ≤ 2 ^ 32 = opens-count (g .run .opens) (g .valid) in
       let is : dayMade (dayPlan d) (daySize d) (dayTaken d) ≡ d =
-      ap dayOf (ap (λ (x : ℕ). made (dayPlan d) (runOf x (daySize d)) (dayTaken d)) (sym (s .0)) ∙ sym (g .is)) in
+      ap dayOf (ap (λ (r : Run). made (dayPlan d) r (dayTaken d)) (sym (run-is (d .run) (s .1) (s .0))) ∙ sym (g .is)) in
       (spell (dayPlan d), subst (DayAfter (spell (dayPlan d))) is (day-after-steps (dayPlan d) (g .valid) (daySize d) fits (dayTaken d) (g .run .not-past))),
 )
 

@@ -11,6 +11,7 @@ use lib.Seq.{take-at}
 use Rattle.numbers.specs.Listed.{joined}
 use Rattle.plan.specs.Plan.{Plan, Valid, spell}
 use Rattle.plan.specs.Order.{firstDue}
+use Rattle.points.specs.Run.{oneStart}
 use Rattle.state.specs.State.{made}
 use Rattle.calls.specs.History.{After, Request, step, block, lentTo, AllRoom}
 use Rattle.calls.proofs.CaseLaws.{run-cleared}
@@ -47,7 +48,7 @@ module _ (p : Plan) (v : Valid p) (N : ℕ) (fits : N ≤ 2 ^ 32) where
 
     some : taken < N → (q : Request) → widthOf p ≤ length (lentTo q)
         → (s : DayServes taken (dayMovedBy q (dayMade p N taken)) (dayWrittenBy q (dayMade p N taken))) × (1 ≤ s .many)
-    unfolding dayMovedBy dayWrittenBy dayMade made
+    unfolding dayMovedBy dayWrittenBy dayMade made oneStart
     some l (step buf) room =
         let a = day-step-at p v N fits taken buf room l .0 in (
           record {
@@ -72,7 +73,7 @@ module _ (p : Plan) (v : Valid p) (N : ℕ) (fits : N ≤ 2 ^ 32) where
         )
 
     one : (q : Request) → ServesOne dayServer (dayMade p N) (dayPoint p) N (widthOf p) taken q
-    unfolding dayMade made
+    unfolding dayMade made oneStart
     one q = go (firstDue (dayRunRefusals (dayMade p N taken) (lentTo q))) refl
       where
         go : (n : ℕ) → firstDue (dayRunRefusals (dayMade p N taken) (lentTo q)) ≡ n → ServesOne dayServer (dayMade p N) (dayPoint p) N (widthOf p) taken q
@@ -128,7 +129,7 @@ at-end : (p : Plan) → Valid p → (buf : List ℕ) → widthOf p ≤ length bu
     × (dayJumpSpec d 4294967296 buf .code ≡ 11)
     × (dayTaken d ≡ 4294967295 → let t = dayStepSpec d buf in
     (t .code ≡ 0) × (take (widthOf p) (dayStepBuf d buf) ≡ dayPoint p 4294967295) × (dayStepSpec (t .set) buf .code ≡ 12))
-unfolding dayMade made
+unfolding dayMade made oneStart
 at-end p v buf room d (taken, h, is) =
     let fits : 2 ^ 32 ≤ 2 ^ 32 = omega arith in
     let j = day-jump-at p v (2 ^ 32) fits taken buf 4294967295 h room (omega arith) in

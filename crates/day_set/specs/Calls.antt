@@ -2,14 +2,14 @@
 -- its run twin. A refusal answers its number and zero for every other number, the day set as given (a refused making: the one that is all zero),
 -- and changes no lent word. Definitions only.
 use mathlib.Core.Bool.{Bool, not}
-use mathlib.Core.List.{List, _++_}
+use mathlib.Core.List.{List, [], _∷_, _++_}
 use Prim.Native.Nat.{ℕ, _+_, _-_, _*_, _/_, _^_, min}
 use lib.Dec.{ltb, leb}
 use lib.ListN.{length, drop}
-use Rattle.plan.specs.Order.{Condition, firstDue, unlessDue}
+use Rattle.plan.specs.Order.{Condition, _when_, firstDue, unlessDue}
 use Rattle.state.specs.State.{planIn}
 use Rattle.state.specs.declared.Sampler.{Sampler}
-use Rattle.calls.specs.Calls.{foreign, openOrder, jumpOrder, runOrder}
+use Rattle.calls.specs.Calls.{foreign, jumpOrder, runOrder}
 use Rattle.calls.specs.declared.Jumped.{Jumped}
 use Rattle.day_set.specs.DaySet.{dayPoint, dayPoints, dayMade, dayBlank, dayPlan, daySize, dayTaken, dayWidth, genuineDay}
 use Rattle.day_set.specs.declared.DaySet.{DaySet}
@@ -43,10 +43,10 @@ spentDay d = leb (daySize d) (dayTaken d)
 abbrev pub noDayRoom : DaySet → List ℕ → Bool
 noDayRoom d buf = ltb (length buf) (dayWidth d)
 
--- ---- make, the twin of open: the set of N points of the state's plan, whatever its run
+-- ---- make, the twin of open: the set of N points of the state's plan, whatever its run. With one start for all axes 17 is never due.
 
 abbrev pub makeRefusals : Sampler → ℕ → List Condition
-makeRefusals s N = openOrder (foreign s) (tooLarge N)
+makeRefusals s N = 15 when foreign s ∷ 11 when tooLarge N ∷ []
 
 unfoldable pub makeSpec : Sampler → ℕ → DayMoved
 makeSpec s N = dayMoved (firstDue (makeRefusals s N)) (unlessDue (makeRefusals s N) (dayMade (planIn s) N 0) dayBlank)

@@ -1,15 +1,15 @@
 -- A day set: the Hammersley set of an accepted plan (02-change-requests.md, K1; source document 002, section 4). Of N points the one with number
--- n, from 0 to N - 1, has the leading axis n / N and then the plan's axes at index n. A day set is held as a sampler whose run has start 0 and
--- count N. Definitions only.
+-- n, from 0 to N - 1, has the leading axis n / N and then the plan's axes at index n. A day set is held as a sampler whose run has start 0 on each
+-- axis and count N. Definitions only.
 use mathlib.Core.Bool.{Bool}
 use mathlib.Core.List.{List, _∷_}
 use Prim.Native.Nat.{ℕ, suc}
-use lib.Dec.{eqb}
+use lib.ListN.{replicate}
 use Rattle.numbers.specs.Listed.{joined}
 use Rattle.plan.specs.Plan.{Plan}
 use Rattle.points.specs.Point.{pointOf}
-use Rattle.points.specs.Run.{Run, runOf}
-use Rattle.state.specs.State.{both, made, blank, planIn, genuine}
+use Rattle.points.specs.Run.{Run, oneStart}
+use Rattle.state.specs.State.{both, sameWords, made, blank, planIn, genuine}
 use Rattle.state.specs.declared.Sampler.{Sampler}
 use Rattle.day_set.specs.declared.DaySet.{DaySet}
 
@@ -26,8 +26,8 @@ dayPoints p = joined (dayPoint p)
 -- ---- its state
 
 -- the run over the points of a day set of N
-abbrev pub dayRun : ℕ → Run
-dayRun N = runOf 0 N
+abbrev pub dayRun : Plan → ℕ → Run
+dayRun p N = oneStart p 0 N
 
 -- the day set that holds this sampler
 abbrev pub dayOf : Sampler → DaySet
@@ -35,7 +35,7 @@ dayOf s = record { run = s }
 
 -- the day set of N points of this plan, so many of which are taken
 unfoldable pub dayMade : Plan → ℕ → ℕ → DaySet
-dayMade p N taken = dayOf (made p (dayRun N) taken)
+dayMade p N taken = dayOf (made p (dayRun p N) taken)
 
 -- the day set that is all zero
 unfoldable pub dayBlank : DaySet
@@ -55,6 +55,10 @@ dayTaken d = d .run .taken
 abbrev pub dayWidth : DaySet → ℕ
 dayWidth d = suc (d .run .axes)
 
--- The test: a genuine sampler whose run has start 0. Any other day set is foreign (number 15).
+-- each of six starts is 0
+abbrev pub fromZero : List ℕ → Bool
+fromZero starts = sameWords starts (replicate 6 0)
+
+-- The test: a genuine sampler whose run has start 0 on each axis. Any other day set is foreign (number 15).
 unfoldable pub genuineDay : DaySet → Bool
-genuineDay d = both (eqb (d .run .start) 0) (genuine (d .run))
+genuineDay d = both (fromZero (d .run .starts)) (genuine (d .run))

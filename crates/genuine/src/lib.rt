@@ -10,7 +10,7 @@ ghost use Rattle.points.specs.Run.{runOf};
 ghost use Rattle.state.specs.State.{stateOf, genuine};
 
 // Whether the words from place `from` on are 0.
-fn is_zero(words: &[u64], from: usize) -> bool
+pub fn is_zero(words: &[u64], from: usize) -> bool
     ensures { λ r. ⌜ (r ≡ true) ↔ ZeroFrom from (now (words .entry)) ⌝ }
 {
     let mut x: u64 = 0;

@@ -1,5 +1,6 @@
 -- `day_calls::day_jump` meets its contract: it is the run's jump behind the first word, and the point's number in that. Assumes nothing.
 use mathlib.Core.Path.{_≡_, sym, ap, _∙_}
+use mathlib.Core.Bool.{true}
 use mathlib.Core.List.{List, _∷_}
 use Prim.Native.Nat.{ℕ, suc, _≤_}
 use borrow.Author.Needs.{needs}
@@ -7,15 +8,28 @@ use lib.ListN.{length, drop}
 use Rattle.plan.specs.Order.{unlessNumber}
 use Rattle.calls.specs.Calls.{jumpSpec, jumpBuf}
 use Rattle.calls.specs.declared.Jumped.{Jumped}
+use Rattle.calls.proofs.CaseLaws.{foreign-of, known-of}
+use Rattle.day_set.specs.DaySet.{fromZero}
 use Rattle.day_set.proofs.CaseLaws.{foreign-start, day-jump-foreign, jump-wraps}
 use Rattle.day_calls.proofs.FrontLaws.{lent-is, whole-long, put-is, jump-room, jump-kept}
 use Rattle.day_calls.proofs.day_jump.Statement.{statement}
 use Rattle.day_calls.proofs.day_jump.Tie as tie
 
+from-zero-requires : tie.Need-from-zero-requires
+from-zero-requires c κs = search needs
+
+-- the starts are tested first
+abbrev start : tie.After-from-zero → tie.Start
+start c = c .before .before .before .before .before
+
+zero : (c : tie.Else1) → fromZero (start (c .before) .args .d .run .starts) ≡ true
+zero c = known-of _ _ (c .before .from-zero .ensures) (c .if1 .left)
+
 returns : tie.Need-returns
 returns c =
-    let a = c .before .before .before .before .args in
-    let w = day-jump-foreign (a .d) (a .out .now) (foreign-start (a .d) (c .if1 .taken)) (a .n) in (sym (w .0), sym (w .1))
+    let a = start (c .before) .args in
+    let w = day-jump-foreign (a .d) (a .out .now) (foreign-start (a .d) (foreign-of _ _ (c .before .from-zero .ensures) (c .if1 .taken))) (a .n) in
+    (sym (w .0), sym (w .1))
 
 index-of-requires : tie.Need-index-of-requires
 index-of-requires c κs = search needs
@@ -40,7 +54,7 @@ jump-requires c κs = search needs
 
 -- where the run's jump is taken
 abbrev begun : tie.After-jump → tie.Start
-begun c = c .before .before .before .before .before .before .before .before
+begun c = start (c .before .before .before .before .before)
 
 -- the index that it is given
 abbrev index : tie.After-jump → ℕ
@@ -80,7 +94,7 @@ returns-2 c =
     let buf = a .out .now in
     let B = drop 1 buf in
     let i = p .before .before .before .index-of .ensures in
-    let w = jump-wraps (a .d) (p .before .before .before .before .if1 .left) buf (a .n) (index p) (i .0) (i .1) in
+    let w = jump-wraps (a .d) (zero (p .before .before .before .before)) buf (a .n) (index p) (i .0) (i .1) in
     let is = lent-is buf (l .result) (l .ensures .0) (l .ensures .1) (l .ensures .2) in
     let part = p .jump .ensures .1 ∙ ap (jumpBuf (a .d .run) (index p)) is in (
       lent p ∙ sym (w .0),
@@ -95,6 +109,7 @@ pub day-jump-spec : {M : Type 1} → statement M
 day-jump-spec =
     tie.close
     (tie.spec
+    from-zero-requires
     returns
     index-of-requires
     least-requires

@@ -1,5 +1,6 @@
 -- `day_calls::day_step` meets its contract: it is the run's step behind the first word, and the point's number in that. Assumes nothing.
 use mathlib.Core.Path.{_≡_, sym, ap, _∙_}
+use mathlib.Core.Bool.{true}
 use mathlib.Core.List.{List, _∷_}
 use Prim.Native.Nat.{ℕ, suc, _≤_}
 use borrow.Author.Needs.{needs}
@@ -7,17 +8,29 @@ use lib.ListN.{length, drop}
 use Rattle.plan.specs.Order.{unlessNumber}
 use Rattle.calls.specs.Calls.{stepSpec, stepBuf}
 use Rattle.calls.specs.declared.Moved.{Moved}
-use Rattle.day_set.specs.DaySet.{dayOf}
+use Rattle.calls.proofs.CaseLaws.{foreign-of, known-of}
+use Rattle.day_set.specs.DaySet.{dayOf, fromZero}
 use Rattle.day_set.specs.Calls.{dayMoved}
 use Rattle.day_set.proofs.CaseLaws.{foreign-start, day-step-foreign, step-wraps}
 use Rattle.day_calls.proofs.FrontLaws.{lent-is, whole-long, put-is, step-room, step-kept}
 use Rattle.day_calls.proofs.day_step.Statement.{statement}
 use Rattle.day_calls.proofs.day_step.Tie as tie
 
+from-zero-requires : tie.Need-from-zero-requires
+from-zero-requires c κs = search needs
+
+-- the starts are tested first
+abbrev start : tie.After-from-zero → tie.Start
+start c = c .before .before .before .before .before
+
+zero : (c : tie.Else1) → fromZero (start (c .before) .args .d .run .starts) ≡ true
+zero c = known-of _ _ (c .before .from-zero .ensures) (c .if1 .left)
+
 returns : tie.Need-returns
 returns c =
-    let a = c .before .before .before .before .args in
-    let w = day-step-foreign (a .d) (a .out .now) (foreign-start (a .d) (c .if1 .taken)) in (sym (w .0), sym (w .1))
+    let a = start (c .before) .args in
+    let w = day-step-foreign (a .d) (a .out .now) (foreign-start (a .d) (foreign-of _ _ (c .before .from-zero .ensures) (c .if1 .taken))) in
+    (sym (w .0), sym (w .1))
 
 least-requires : tie.Need-least-requires
 least-requires c κs = search needs
@@ -39,7 +52,7 @@ step-requires c κs = search needs
 
 -- where the run's step is taken
 abbrev begun : tie.After-step → tie.Start
-begun c = c .before .before .before .before .before .before .before
+begun c = start (c .before .before .before .before)
 
 -- the run's step is lent what lies behind the first word
 lent : (c : tie.After-step) → let a = begun c .args in c .step .result ≡ stepSpec (a .d .run) (drop 1 (a .out .now))
@@ -74,7 +87,7 @@ returns-2 c =
     let a = begun p .args in
     let buf = a .out .now in
     let B = drop 1 buf in
-    let w = step-wraps (a .d) (p .before .before .before .if1 .left) buf in
+    let w = step-wraps (a .d) (zero (p .before .before .before)) buf in
     let is = lent-is buf (l .result) (l .ensures .0) (l .ensures .1) (l .ensures .2) in
     let part = p .step .ensures .1 ∙ ap (stepBuf (a .d .run)) is in (
       ap (λ (r : Moved). dayMoved (r .code) (dayOf (r .state))) (lent p) ∙ sym (w .0),
@@ -89,6 +102,7 @@ pub day-step-spec : {M : Type 1} → statement M
 day-step-spec =
     tie.close
     (tie.spec
+    from-zero-requires
     returns
     least-requires
     mul-step
