@@ -2,17 +2,16 @@
 use mathlib.Core.Path.{_≡_, refl, sym, ap, ap₂, _∙_}
 use mathlib.Core.Bool.{true}
 use mathlib.Core.List.{List, _∷_, _++_}
-use Prim.Native.Nat.{ℕ, zero, suc, _+_, _-_, _*_, _/_, _^_, _≤_}
+use Prim.Native.Nat.{ℕ, zero, suc, _+_, _-_, _*_, _^_, _≤_}
 use native.Mathlib.Omega.{arith}
-use lib.ListN.{length, getD, drop}
+use lib.ListN.{length, drop}
 use lib.Seq.{ext-getD}
 use Rattle.numbers.specs.Listed.{listed, joined}
 use Rattle.columns.specs.Rows.{Column, Columns, inFront, rows}
 use Rattle.columns.proofs.ColumnLaws.{columns-unchanged, front-list, front-row}
 use Rattle.plan.specs.Order.{firstDue, unlessNumber}
-use Rattle.points.specs.Point.{pointOf}
 use Rattle.points.specs.Run.{runPoint, runNumerator}
-use Rattle.state.specs.State.{planIn, runIn, genuine}
+use Rattle.state.specs.State.{runIn, genuine}
 use Rattle.state.specs.declared.Sampler.{Sampler}
 use Rattle.calls.specs.Calls.{rowsRefusals, rowsSize, rowsSpec, rowNumerator}
 use Rattle.calls.specs.declared.Blocked.{Blocked}

@@ -6,14 +6,17 @@ use mathlib.Core.List.{List, []}
 use Prim.Native.Nat.{ℕ, _+_, _^_, _<_}
 use native.Mathlib.Omega.{arith}
 use lib.Dec.{eqb}
-use lib.ListN.{drop}
+use lib.ListN.{drop, replicate}
 use borrow.Author.Tests.{eq-eqb, ne-eqb, not-false}
 use Rattle.numbers.specs.Count.{count}
 use Rattle.plan.specs.Plan.{Plan, halton, sobol, Valid}
 use Rattle.plan.specs.Order.{firstDue, unlessDue}
 use Rattle.plan.proofs.OrderLaws.{none-due, other-due}
-use Rattle.points.specs.Arrays.{familyOf}
-use Rattle.state.proofs.GenuineLaws.{Genuine, genuine-is, genuine-range}
+use Rattle.points.specs.Arrays.{familyOf, ofAxis}
+use Rattle.points.specs.Run.{oneStart}
+use Rattle.points.proofs.PointLaws.{axis-count}
+use Rattle.points.proofs.RunLaws.{opens-count, one-zeros}
+use Rattle.state.proofs.GenuineLaws.{Genuine, genuine-is}
 use Rattle.state.proofs.StateLaws.{genuine-holds}
 use Rattle.calls.proofs.HistoryLaws.{none-15}
 use Rattle.day_set.specs.DaySet.{dayRun, dayPlan, daySize, dayWidth, genuineDay}
@@ -62,12 +65,13 @@ module _ (d : DaySet) (w : List ℕ) where
 
       -- of the points that the leading cut takes, by the other cuts
       pub day-count-in-arrays : {first : ℕ} {others : List ℕ} → first ≡ cutLimit (cutAt w 0 .u) (cutAt w 0 .q) (daySize d) → others ≡ drop 2 w
-          → count (insideFrom (d .run .family) (d .run .bases) (d .run .directions) others (d .run .axes) 0) first
+          → count (insideFrom (d .run .family) (d .run .bases) (d .run .directions) others (d .run .axes) (ofAxis (replicate 6 0))) first
           ≡ dayInsideCount (dayPlan d) (cutsOf w (dayWidth d)) (daySize d)
+      unfolding oneStart
       day-count-in-arrays e f =
           let c = window-cuts w (dayWidth d) h in
           let l = cutAt w 0 in
-          rw (e, f) (count-in-arrays (d .run) (drop 2 w) (day-is d g .1) (dayRun (cutLimit (l .u) (l .q) (daySize d)))
+          rw (e, f) (count-in-arrays (d .run) (drop 2 w) (day-is d g .1) (dayRun (dayPlan d) (cutLimit (l .u) (l .q) (daySize d))) (one-zeros (dayPlan d) 0 (cutLimit (l .u) (l .q) (daySize d)) (axis-count (dayPlan d) (genuine-is (d .run) (day-is d g .1) .valid) .1) refl)
           ∙ sym (day-first (dayPlan d) (cutsOf w (dayWidth d)) (daySize d) (c .q-pos 0 (omega arith)) (c .u-le 0 (omega arith))
           ∙ rw (cuts-rest w (d .run .axes), cuts-at w (dayWidth d) 0 (omega arith), uOf, qOf) refl))
 
@@ -87,7 +91,7 @@ module _ (d : DaySet) (g : genuineDay d ≡ true) {b : ℕ} (e : b ≡ boundBy (
   plan-bound = let h = genuine-holds is in e ∙ bound-held (dayPlan d) (h .family-is) (h .axes-is) (h .bases-is) (is .valid) (daySize d)
 
   pub day-bound-fits : b < 2 ^ 63
-  day-bound-fits = rw plan-bound (bound-of-fits (dayPlan d) (is .valid) (daySize d) (omega (arith, genuine-range is)))
+  day-bound-fits = rw plan-bound (bound-of-fits (dayPlan d) (is .valid) (daySize d) (opens-count (is .run .opens) (is .valid)))
 
   pub day-bound-is : cond (eqb (d .run .family) 2) 0 (b + 1) ≡ dayBoundOf (dayPlan d) (daySize d)
   day-bound-is = rw plan-bound (of-plan (dayPlan d) (is .valid) (d .run .family) (genuine-holds is .family-is) (daySize d))

@@ -13,11 +13,13 @@ use Rattle.discrepancy.proofs.FitLaws.{bound-mono}
 use Rattle.plan.specs.Plan.{Plan, halton, sobol, Valid, spell}
 use Rattle.points.specs.Point.{axisCount}
 use Rattle.points.specs.Arrays.{familyOf}
-use Rattle.points.proofs.RunLaws.{is-range}
+use Rattle.points.specs.Run.{oneStart}
+use Rattle.points.proofs.PointLaws.{axis-count}
+use Rattle.points.proofs.RunLaws.{opens-count, one-opens}
 use Rattle.state.specs.State.{made}
 use Rattle.state.specs.declared.Sampler.{Sampler}
 use Rattle.state.proofs.PlanLaws.{plan-in-made}
-use Rattle.state.proofs.GenuineLaws.{genuine-is, genuine-range}
+use Rattle.state.proofs.GenuineLaws.{genuine-is}
 use Rattle.state.proofs.StateLaws.{genuine-holds}
 use Rattle.calls.specs.History.{After, Request}
 use Rattle.calls.proofs.HistoryLaws.{after-leaves}
@@ -54,12 +56,12 @@ near-more N m u q S U Q B b pos reach close part more near =
 pub day-near : (family : ℕ) (bases : List ℕ) → Valid (halton family bases) → (N : ℕ) → N ≤ 2 ^ 32 → (w : List Cut) → Cuts w (suc (length bases))
     → let p = halton family bases in
     Near N (dayInsideCount p w N) (uProduct w (suc (length bases))) (qProduct w (suc (length bases))) (dayBoundOf p N)
-unfolding Valid boundOf dayBoundOf
+unfolding Valid boundOf dayBoundOf oneStart
 day-near family bases v N small w cuts =
     rw (u-front w (length bases), q-front w (length bases), day-first p w N pos part)
     (near-more N m (uOf w 0) (qOf w 0) _ _ _ _ _ pos (limit-reaches (uOf w 0) (qOf w 0) N pos) (limit-near (uOf w 0) (qOf w 0) N pos)
     (product-mono (uOf (drop 1 w)) (qOf (drop 1 w)) (length bases) (rest .u-le)) (bound-mono (baseAt bases) (length bases) (v .2 .low) few)
-    (demand-3 family bases (drop 1 w) (dayRun m) v (is-range (dayRun m) (omega (arith, few))) rest))
+    (demand-3 family bases (drop 1 w) (dayRun p m) v (one-opens p 0 m (axis-count p v .0) (omega (arith, few))) rest))
   where
     p : Plan
     p = halton family bases
@@ -98,7 +100,7 @@ day-answer-near d w z f =
     let g = genuine-is (d .run) (day-is d (a .0) .1) in
     let h = genuine-holds g in
     rw (day-count-done d w (a .0) (a .1))
-    (plan-near (dayPlan d) (λ e. f (h .family-is ∙ e)) (g .valid) (d .run .axes) (h .axes-is) (daySize d) (omega (arith, genuine-range g)) w (a .1))
+    (plan-near (dayPlan d) (λ e. f (h .family-is ∙ e)) (g .valid) (d .run .axes) (h .axes-is) (daySize d) (opens-count (g .run .opens) (g .valid)) w (a .1))
 
 -- ---- Demand 3 of day sets as one theorem about composed calls
 
@@ -107,14 +109,14 @@ module _ (p : Plan) (v : Valid p) (N : ℕ) (small : N ≤ 2 ^ 32) (taken : ℕ)
   cuts = cutsOf w (widthOf p)
 
   accepted : (genuineDay (dayMade p N taken) ≡ true) × (isWindow w (widthOf p) ≡ true)
-  unfolding dayMade made
+  unfolding dayMade made oneStart
   accepted = day-count-accepted (dayMade p N taken) w (ap (λ (t : DaySet). dayCountSpec t w .code) (sym is) ∙ z)
 
   answered : dayCountSpec d w ≡ counted 0 (dayInsideCount p cuts N) (dayBoundOf p N)
-  unfolding dayMade made
+  unfolding dayMade made oneStart
   answered =
       ap (λ (t : DaySet). dayCountSpec t w) is
-      ∙ (rw (plan-in-made p v (dayRun N) taken) at (day-count-done (dayMade p N taken) w (accepted .0) (accepted .1)))
+      ∙ (rw (plan-in-made p v (dayRun p N) taken) at (day-count-done (dayMade p N taken) w (accepted .0) (accepted .1)))
 
   composed : let a = dayCountSpec d w in (a .inside ≡ dayInsideCount p cuts N) × (a .bound ≡ dayBoundOf p N)
       × (((i : ℕ) → i < widthOf p → cutAt w i .u ≡ cutAt w i .q) → a .inside ≡ N)

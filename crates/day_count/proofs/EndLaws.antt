@@ -12,9 +12,10 @@ use Rattle.numbers.proofs.CountLaws.{count-le}
 use Rattle.plan.specs.Plan.{Plan, halton, Valid}
 use Rattle.points.specs.Point.{axisCount}
 use Rattle.state.specs.State.{genuine}
-use Rattle.state.proofs.GenuineLaws.{genuine-is, genuine-range}
+use Rattle.state.proofs.GenuineLaws.{genuine-is}
 use Rattle.state.proofs.StateLaws.{genuine-holds}
-use Rattle.calls.proofs.PointLaws.{axes-few}
+use Rattle.calls.proofs.PointLaws.{axes-few, known-run}
+use Rattle.points.specs.Run.{oneStart}
 use Rattle.day_set.specs.DaySet.{dayRun, dayPlan, daySize, dayWidth, genuineDay}
 use Rattle.day_set.specs.declared.DaySet.{DaySet}
 use Rattle.day_set.proofs.CaseLaws.{day-is}
@@ -31,9 +32,10 @@ use Rattle.day_count.proofs.CaseLaws.{day-count-accepted, day-count-don
 -- u = q on every axis, the leading one too: every point is inside
 pub day-count-whole : (p : Plan) → Valid p → (w : List Cut) → Cuts w (suc (axisCount p)) → ((i : ℕ) → i < suc (axisCount p) → uOf w i ≡ qOf w i)
     → (N : ℕ) → dayInsideCount p w N ≡ N
+unfolding oneStart
 day-count-whole p v w cuts same N =
     day-first p w N pos part
-    ∙ count-whole p (drop 1 w) (dayRun (firstOf w N)) v (rest-cuts w (axisCount p) cuts .q-pos) (λ i l. rw (cut-next w i, uOf, qOf) (same (suc i) (omega arith)))
+    ∙ count-whole p (drop 1 w) (dayRun p (firstOf w N)) v (rest-cuts w (axisCount p) cuts .q-pos) (λ i l. rw (cut-next w i, uOf, qOf) (same (suc i) (omega arith)))
     ∙ le-antisymm (limit-within (uOf w 0) (qOf w 0) N pos part) all
   where
     pos : 0 < qOf w 0
@@ -79,7 +81,7 @@ module _ (d : DaySet) (w : List ℕ) (r : Counted) (e : r ≡ dayCountSpec d w) 
   unfolding dayInsideCount
   day-answered = (
     omega (arith, inside-is, count-le (dayInside (dayPlan d) (cutsOf w (dayWidth d)) (daySize d)) (daySize d)),
-    omega (arith, genuine-range (genuine-is (d .run) genuine-run)),
+    omega (arith, known-run (d .run) genuine-run .0 .at 0),
     omega (arith, axes-few (d .run) genuine-run),
     accepted .1,
   )

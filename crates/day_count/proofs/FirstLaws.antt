@@ -7,7 +7,7 @@ use native.Mathlib.Omega.{arith}
 use lib.ListN.{drop}
 use Rattle.numbers.proofs.CountLaws.{count-first}
 use Rattle.plan.specs.Plan.{Plan}
-use Rattle.points.specs.Run.{indexAt, runNumerator}
+use Rattle.points.specs.Run.{oneStart, indexAt, runNumerator}
 use Rattle.day_set.specs.DaySet.{dayRun}
 use Rattle.window.specs.Counting.{Cut, uOf, qOf, axisInside, stepInside, insideCount}
 use Rattle.inside_count.specs.Flagging.{cutLimit}
@@ -33,8 +33,8 @@ firstOf w N = cutLimit (uOf w 0) (qOf w 0) N
 
 -- those of them that are inside the other cuts are all that are inside
 pub day-first : (p : Plan) (w : List Cut) (N : ℕ) → 0 < qOf w 0 → uOf w 0 ≤ qOf w 0
-    → dayInsideCount p w N ≡ insideCount p (drop 1 w) (dayRun (firstOf w N))
-unfolding dayInsideCount dayInside insideCount stepInside axisInside runNumerator indexAt
+    → dayInsideCount p w N ≡ insideCount p (drop 1 w) (dayRun p (firstOf w N))
+unfolding dayInsideCount dayInside insideCount stepInside axisInside runNumerator indexAt oneStart
 day-first p w N pos h =
-    count-first (dayInside p w N) (stepInside p (drop 1 w) (dayRun (firstOf w N))) (firstOf w N) N (limit-within (uOf w 0) (qOf w 0) N pos h)
+    count-first (dayInside p w N) (stepInside p (drop 1 w) (dayRun p (firstOf w N))) (firstOf w N) N (limit-within (uOf w 0) (qOf w 0) N pos h)
     (λ n. rw (limit-cut n N (uOf w 0) (qOf w 0) pos) refl)

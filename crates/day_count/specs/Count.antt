@@ -16,7 +16,7 @@ use Rattle.window_count.specs.declared.Counted.{Counted}
 
 -- point n of N is inside: n × q is less than u × N on the leading axis, and the plan's point of index n is inside the other cuts
 unfoldable pub dayInside : Plan → List Cut → ℕ → ℕ → Bool
-dayInside p w N n = inCut (getD w 0 noCut) n N && stepInside p (drop 1 w) (dayRun N) n
+dayInside p w N n = inCut (getD w 0 noCut) n N && stepInside p (drop 1 w) (dayRun p N) n
 
 -- S: how many of the N points are inside
 unfoldable pub dayInsideCount : Plan → List Cut → ℕ → ℕ

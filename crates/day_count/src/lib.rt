@@ -25,7 +25,7 @@ pub fn day_count(d: DaySet, w: &[u64]) -> Counted
     ensures { λ r. ⌜ r ≡ dayCountSpec d (now (w .entry)) ⌝ }
 {
     let s = d.run;
-    if s.start != 0 {
+    if !day_set::from_zero(&s.starts) {
         return window_count::refused(refusal::INVALID_STATE);
     }
     if !genuine::is_genuine(
@@ -46,12 +46,13 @@ pub fn day_count(d: DaySet, w: &[u64]) -> Counted
         return window_count::refused(refusal::BAD_WINDOW);
     }
     let first = inside_count::cut_limit(w[0], w[1], s.count);
+    let ns = [0u64; 6];
     let inside = strip_count::count_inside(
         s.family,
         axes,
         &s.bases,
         &s.directions,
-        0,
+        &ns,
         first as usize,
         &w[2..],
     );

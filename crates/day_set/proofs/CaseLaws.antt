@@ -1,13 +1,13 @@
 -- Each answer of each call on a day set comes from its run twin's, on the sampler in it: where the run starts at 0 on each axis the tests are the
 -- same, and a point has its number in front. Assumes nothing.
 use mathlib.Core.Path.{_≡_, refl, sym, ap, _∙_}
-use mathlib.Core.Bool.{Bool, true, false, not, cond}
+use mathlib.Core.Bool.{Bool, true, false, not}
 use mathlib.Core.Logic.{⊎-elim}
 use mathlib.Core.List.{List, [], _∷_, _++_}
-use Prim.Native.Nat.{ℕ, zero, suc, _+_, _-_, _*_, _/_, _^_, _≤_, _<_, min}
+use Prim.Native.Nat.{ℕ, zero, suc, _+_, _-_, _*_, _^_, _≤_, _<_}
 use native.Mathlib.Nat.{zero-add}
 use native.Mathlib.Omega.{arith}
-use lib.Dec.{ltb, leb}
+use lib.Dec.{ltb}
 use lib.ListN.{length, take, drop, replicate, length-drop}
 use lib.Seq.{drop-drop}
 use borrow.Author.Tests.{lt-ltb, le-ltb, le-leb, lt-leb, leb-false}
@@ -20,10 +20,9 @@ use Rattle.points.proofs.RunLaws.{one-point}
 use Rattle.state.specs.State.{both, made, planIn, runIn, genuine}
 use Rattle.state.specs.declared.Sampler.{Sampler}
 use Rattle.state.proofs.SameLaws.{both-true, same-words-is}
-use Rattle.calls.specs.Calls.{moved, openSpec, foreign, beyond, spent, runOrder, noPointRoom, jumpRefusals, jumpSpec, jumpBuf, runRefusals, stepSpec, stepBuf, rowsSpec}
+use Rattle.calls.specs.Calls.{openSpec, foreign, beyond, spent, runOrder, noPointRoom, jumpRefusals, jumpSpec, jumpBuf, runRefusals, stepSpec, stepBuf, rowsSpec}
 use Rattle.calls.specs.OneStart.{oneRefusals, oneOpen}
 use Rattle.calls.specs.declared.Moved.{Moved}
-use Rattle.calls.specs.declared.Blocked.{Blocked}
 use Rattle.calls.proofs.CaseLaws.{open-foreign, run-cleared}
 use Rattle.calls.proofs.PointLaws.{axes-are, axes-few, known-run}
 use Rattle.calls.proofs.OneStartLaws.{one-opening}
@@ -31,7 +30,6 @@ use Rattle.day_set.specs.DaySet.{dayPoint, dayPoints, dayRun, dayOf, day
 use Rattle.day_set.specs.Calls.{dayMoved, dayBlocked, tooLarge, pastDay, noDayRoom, makeSpec, dayJumpRefusals, dayJumpSpec, dayJumpBuf, dayRunRefusals, dayStepSpec, dayStepBuf, dayBlockSize, dayBlockSpec, dayBlockBuf}
 use Rattle.day_set.specs.declared.DaySet.{DaySet}
 use Rattle.day_set.specs.declared.DayMoved.{DayMoved}
-use Rattle.day_set.specs.declared.DayBlocked.{DayBlocked}
 
 -- ---- the test
 

@@ -1,25 +1,22 @@
 -- The walk over a run held in arrays: what an axis leaves of the flags, and what parts of a run add up to. Assumes nothing.
 use mathlib.Core.Path.{_≡_, refl, ap, _∙_}
 use mathlib.Core.Bool.{Bool, true, false, _&&_, cond}
-use mathlib.Core.Logic.{⊎-elim}
 use mathlib.Core.List.{List}
 use Prim.Native.Nat.{ℕ, _+_, _-_, _*_, _/_, _≤_, _<_}
 use native.Mathlib.Nat.{add-mul, le-div-iff-mul-le}
 use native.Mathlib.Numerals.{add-one}
 use native.Mathlib.Omega.{arith}
 use lib.Dec.{ltb}
-use lib.ListN.{length, take, drop, getD, replicate, getD-replicate, List·getD-eq-default}
+use lib.ListN.{length, take, drop, getD, replicate, getD-replicate}
 use Rattle.numbers.specs.Count.{bit, count, each}
 use Rattle.numbers.specs.Cut.{belowCut}
-use Rattle.numbers.proofs.Cases.{lt-or-ge, lt-iff}
+use Rattle.numbers.proofs.Cases.{lt-iff}
 use Rattle.numbers.proofs.CountLaws.{count-ext, count-parts}
 use Rattle.numbers.proofs.EachLaws.{each-ext}
 use Rattle.marks.specs.Marking.{Marked}
 use Rattle.sobol_tables.specs.Tables.{Directions}
-use Rattle.points.specs.Arrays.{numeratorAt, numeratorFrom, denominatorAt, AxisAt, Within}
-use Rattle.points.specs.Run.{runOf, indexAt, indexesAt}
+use Rattle.points.specs.Arrays.{numeratorAt, numeratorFrom, denominatorAt, AxisAt}
 use Rattle.points.proofs.ArrayLaws.{numerator-at-lt, numerator-by-part, denominator-by-two}
-use Rattle.points.proofs.RunLaws.{indexes-length, indexes-at}
 use Rattle.window.specs.Counting.{cutAt}
 use Rattle.window.specs.Walking.{axisInsideBy, insideFrom}
 use Rattle.inside_count.specs.Flagging.{cutLimit, Flags}
@@ -88,24 +85,6 @@ module _ (family : ℕ) (bases vs w : List ℕ) (n : ℕ → ℕ) where
       (λ j l.
       each-ext (λ a. axisInsideBy family bases vs w (n a + (i + j)) a) (λ a. axisInsideBy family bases vs w (next a + j) a) s
       (λ a h. ap (λ (k : ℕ). axisInsideBy family bases vs w k a) (omega (arith, on a h)))))
-
--- the indexes that a part begins with
-module _ {ns : List ℕ} {k : ℕ} (w : Within ns k) (count t : ℕ) where
-  pub six-at : (i : ℕ) → i < 6 → getD (indexesAt (runOf ns count) t) i 0 ≡ indexAt (runOf ns count) i t
-  six-at i h = indexes-at (runOf ns count) t i (omega (arith, w .long))
-
-  pub within-on : {j : ℕ} → t + j ≤ k → Within (indexesAt (runOf ns count) t) j
-  unfolding indexAt
-  within-on {j} h = record {
-    long = long;
-    at = λ i. ⊎-elim (λ l. omega (arith, w .at i, six-at i l)) (λ l. omega (arith, w .at i, beyond i l)) (lt-or-ge i 6);
-  }
-    where
-      long : length (indexesAt (runOf ns count) t) ≡ 6
-      long = indexes-length (runOf ns count) t ∙ w .long
-
-      beyond : (i : ℕ) → 6 ≤ i → getD (indexesAt (runOf ns count) t) i 0 ≡ 0
-      beyond i l = List·getD-eq-default (indexesAt (runOf ns count) t) 0 {n = i} (omega (arith, long))
 
 pub count-none : (p : ℕ → Bool) → 0 ≡ count p 0
 unfolding count

@@ -19,10 +19,10 @@ use Rattle.points.specs.Point.{axisCount, numeratorOf, denominatorOf, slotOf}
 use Rattle.numbers.specs.Count.{count, each}
 use Rattle.numbers.specs.Cut.{belowCut}
 use Rattle.discrepancy.specs.Bound.{factor}
-use Rattle.points.specs.Run.{indexAt, runNumerator}
+use Rattle.points.specs.Run.{oneStart, indexAt, runNumerator}
 use Rattle.window.specs.Counting.{axisInside, stepInside, insideCount, boundOf, cutsOf}
 use Rattle.reference.specs.Table.{windowOver, answerTo, table}
 
 pub rows-hold : map (λ r. answerTo (r .question)) table ≡ map (λ r. r .answer) table
-unfolding windowOver answerTo gcd gcdIn digit digitCountIn digitCount sum term numeratorTo depth denominator listed evenRule oddRule faureIn faure corput lessFrom sieve bitsFor kocis imageOf numerator rightZeroIn rightZero timesX onlyLast isPrimitive mTerms mRule mList scaled directions stepped toBits ofBits bitsOf refuseIf field andThen sharesFactor readBases polynomialOf isRepeated readMs readAxis readAxes readBody readFields finish readPlan axisCount numeratorOf denominatorOf slotOf count belowCut factor indexAt runNumerator each productTo axisInside stepInside insideCount boundOf cutsOf
+unfolding windowOver answerTo gcd gcdIn digit digitCountIn digitCount sum term numeratorTo depth denominator listed evenRule oddRule faureIn faure corput lessFrom sieve bitsFor kocis imageOf numerator rightZeroIn rightZero timesX onlyLast isPrimitive mTerms mRule mList scaled directions stepped toBits ofBits bitsOf refuseIf field andThen sharesFactor readBases polynomialOf isRepeated readMs readAxis readAxes readBody readFields finish readPlan axisCount numeratorOf denominatorOf slotOf count belowCut factor oneStart indexAt runNumerator each productTo axisInside stepInside insideCount boundOf cutsOf
 rows-hold = refl

@@ -9,7 +9,7 @@ use Rattle.sobol.specs.Directions.{mList}
 use Rattle.plan.specs.Plan.{Axis, Plan, halton, sobol}
 use Rattle.plan.specs.Reading.{Reading, refused, accepted, readPlan}
 use Rattle.points.specs.Point.{axisCount, numeratorOf, denominatorOf, slotOf}
-use Rattle.points.specs.Run.{runOf}
+use Rattle.points.specs.Run.{oneStart}
 use Rattle.window.specs.Counting.{insideCount, boundOf, cutsOf}
 
 pub data Question : Type 0 where
@@ -32,7 +32,7 @@ pub data Answer : Type 0 where
 
 unfoldable pub windowOver : Reading → List ℕ → ℕ → ℕ → Answer
 windowOver (refused n) w start N = read (refused n)
-windowOver (accepted p) w start N = numbers (insideCount p (cutsOf w (axisCount p)) (runOf start N) ∷ boundOf p N ∷ [])
+windowOver (accepted p) w start N = numbers (insideCount p (cutsOf w (axisCount p)) (oneStart p start N) ∷ boundOf p N ∷ [])
 
 unfoldable pub answerTo : Question → Answer
 answerTo (fraction p n) = numbers (numeratorOf p n 0 ∷ denominatorOf p 0 ∷ [])

@@ -6,6 +6,7 @@ use borrow.Author.Needs.{needs}
 use Rattle.columns.specs.Rows.{Columns}
 use Rattle.columns.proofs.ColumnLaws.{columns-empty, columns-as, columns-join, columns-rows}
 use Rattle.points.specs.Arrays.{ofAxis, numeratorsFrom}
+use Rattle.points.proofs.RunLaws.{within-less}
 use Rattle.blocks.proofs.EntryLaws.{bases-of, all-ready, all-points}
 use Rattle.blocks.proofs.fill_by_tables.Statement.{statement}
 use Rattle.blocks.proofs.fill_by_tables.Tie as tie
@@ -60,7 +61,7 @@ table-rows-requires c κs =
       (
         all-ready (c .before .before .before .before .before .before .before .before .before .make-all-tables .ensures),
         s .pre .1,
-        record { long = s .pre .2 .long; at = λ i. omega (arith, s .pre .2 .at i, e .1) },
+        within-less (s .pre .2) (e .1),
         omega (arith, further (c .before .before .before .before)),
         omega (arith, l .inv .1 .same-length, mul-le-mul-right {m = c .before .before .before .before .least .result} {n = a .k} (a .lead + a .axes) (e .1)),
       ),

@@ -5,6 +5,7 @@ use Prim.Native.Nat.{_+_, _-_, _≤_, _<_}
 use Rattle.columns.specs.Rows.{Columns}
 use Rattle.columns.proofs.ColumnLaws.{columns-empty, columns-join, columns-rows}
 use Rattle.points.specs.Arrays.{ofAxis, numeratorsFrom}
+use Rattle.points.proofs.RunLaws.{within-less}
 use Rattle.blocks.proofs.fill_plainly.Statement.{statement}
 use Rattle.blocks.proofs.fill_plainly.Tie as tie
 
@@ -36,7 +37,7 @@ fill-rows-requires c κs =
     let e = c .before .least .ensures in (
       s .pre .0,
       s .pre .1,
-      record { long = s .pre .2 .long; at = λ i. omega (arith, s .pre .2 .at i, e .1) },
+      within-less (s .pre .2) (e .1),
       omega (arith, further (c .before)),
       omega (arith, l .inv .1 .same-length, mul-le-mul-right {m = c .before .least .result} {n = a .k} (a .lead + a .axes) (e .1)),
     )

@@ -1,14 +1,8 @@
 -- `day_calls::day_block` meets its contract: it is the run's rows behind the first words, and the points' numbers in these. Assumes nothing.
 use mathlib.Core.Path.{_≡_, sym, ap, _∙_}
 use mathlib.Core.Bool.{true}
-use mathlib.Core.List.{List}
-use Prim.Native.Nat.{ℕ, _+_, _*_, _^_, _≤_}
 use native.Mathlib.Omega.{arith}
 use borrow.Author.Needs.{needs}
-use lib.ListN.{length}
-use Rattle.columns.specs.Rows.{Column, Columns}
-use Rattle.plan.specs.Order.{unlessNumber}
-use Rattle.calls.specs.Calls.{rowsSpec, rowNumerator}
 use Rattle.calls.specs.declared.Blocked.{Blocked}
 use Rattle.calls.proofs.CaseLaws.{foreign-of, known-of}
 use Rattle.day_set.specs.DaySet.{dayOf, fromZero}

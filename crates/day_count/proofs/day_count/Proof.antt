@@ -8,6 +8,7 @@ use native.Mathlib.Omega.{arith}
 use borrow.Author.Needs.{needs}
 use lib.ListN.{length, drop, take, length-drop}
 use lib.Seq.{take-all}
+use Rattle.points.proofs.RunLaws.{within-all}
 use Rattle.state.specs.State.{genuine}
 use Rattle.calls.proofs.CaseLaws.{foreign-of, known-of}
 use Rattle.calls.proofs.PointLaws.{axes-few, known-arrays, known-run}
@@ -22,24 +23,27 @@ use Rattle.day_count.proofs.CaseLaws.{day-count-foreign, day-count-off,
 use Rattle.day_count.proofs.day_count.Statement.{statement}
 use Rattle.day_count.proofs.day_count.Tie as tie
 
+from-zero-requires : tie.Need-from-zero-requires
+from-zero-requires c κs = search needs
+
 refused-requires : tie.Need-refused-requires
 refused-requires c κs = search needs
 
 returns : tie.Need-returns
-returns c = c .refused .ensures ∙ sym (day-count-foreign _ _ (foreign-start _ (λ e. omega arith)))
+returns c = c .refused .ensures ∙ sym (day-count-foreign _ _ (foreign-start _ (foreign-of _ _ (c .before .before .from-zero .ensures) (c .before .if1 .taken))))
 
 is-genuine-requires : tie.Need-is-genuine-requires
 is-genuine-requires c κs = search needs
 
 -- the run is tested at the start
 abbrev tested : tie.After-is-genuine → tie.Else1
-tested c = c .before .before .before .before .before .before
+tested c = c .before .before .before .before .before .before .before
 
 abbrev start : tie.After-is-genuine → tie.Start
-start c = tested c .before .before .before
+start c = tested c .before .before .before .before .before .before
 
 by : (c : tie.After-is-genuine) → let d = start c .args .d in genuineDay d ≡ genuine (d .run)
-by c = by-run (start c .args .d) (omega arith)
+by c = by-run (start c .args .d) (known-of _ _ (tested c .before .from-zero .ensures) (tested c .if1 .left))
 
 foreign : (c : tie.Then2) → genuineDay (start (c .before) .args .d) ≡ false
 foreign c = by (c .before) ∙ foreign-of _ _ (c .before .is-genuine .ensures) (c .if2 .taken)
@@ -91,7 +95,7 @@ whole : (c : tie.Else3) → genuine (given c .args .d .run) ≡ true
 whole c = day-is _ (known (c .before .before)) .1
 
 small : (c : tie.Else3) → daySize (given c .args .d) ≤ 2 ^ 32
-small c = omega (arith, known-run _ (whole c) .0)
+small c = omega (arith, known-run _ (whole c) .0 .at 0)
 
 shared-slice-read-cut-limit : tie.Need-shared-slice-read-cut-limit
 shared-slice-read-cut-limit c = omega (arith, long (c .before))
@@ -111,11 +115,14 @@ first-small c =
     let l = leading (taken c) in
     omega (arith, c .cut-limit .ensures, limit-within _ _ (daySize (given (taken c) .args .d)) (l .0) (l .2), small (taken c))
 
+slice-aggregate-count-inside : tie.Need-slice-aggregate-count-inside
+slice-aggregate-count-inside c = search needs
+
 sub-count-inside : tie.Need-sub-count-inside
-sub-count-inside c = omega (arith, long (taken (c .before .before .before .before .before)))
+sub-count-inside c = omega (arith, long (taken (c .before .before .before .before .before .before)))
 
 part-count-inside-start : tie.Need-part-count-inside-start
-part-count-inside-start c = omega (arith, long (taken (c .before .before .before .before .before)))
+part-count-inside-start c = omega (arith, long (taken (c .before .before .before .before .before .before)))
 
 part-count-inside-end : tie.Need-part-count-inside-end
 part-count-inside-end c = search needs
@@ -125,12 +132,12 @@ rest w = take-all (length w - 2) (drop 2 w) (omega (arith, length-drop 2 w))
 
 count-inside-requires : tie.Need-count-inside-requires
 count-inside-requires c κs =
-    let m = c .before .before .before .before .before .before in
+    let m = c .before .before .before .before .before .before .before in
     let a = given (taken m) .args in
-    (known-arrays _ (whole (taken m)), omega (arith, first-small m), rw (rest (a .w .now)) (window-room _ _ (window-rest _ _ (fits (taken m)))))
+    (known-arrays _ (whole (taken m)), within-all 0 _ (omega (arith, first-small m)), rw (rest (a .w .now)) (window-room _ _ (window-rest _ _ (fits (taken m)))))
 
 abbrev first-points : tie.After-count-inside → tie.After-cut-limit
-first-points c = c .before .before .before .before .before .before .before
+first-points c = c .before .before .before .before .before .before .before .before
 
 bound-requires : tie.Need-bound-requires
 bound-requires c κs =
@@ -159,6 +166,7 @@ pub day-count-spec : {M : Type 1} → statement M
 day-count-spec =
     tie.close
     (tie.spec
+    from-zero-requires
     refused-requires
     returns
     is-genuine-requires
@@ -171,6 +179,7 @@ day-count-spec =
     shared-slice-read-cut-limit
     shared-slice-read-cut-limit-2
     cut-limit-requires
+    slice-aggregate-count-inside
     sub-count-inside
     part-count-inside-start
     part-count-inside-end

@@ -6,9 +6,10 @@ use borrow.Author.Needs.{needs}
 use Rattle.numbers.specs.Count.{count}
 use Rattle.points.specs.Arrays.{ofAxis}
 use Rattle.points.specs.Run.{indexAt}
+use Rattle.points.proofs.RunLaws.{within-less, six-at, within-on}
 use Rattle.window.specs.Walking.{insideFrom}
 use Rattle.numbers.proofs.CountLaws.{count-le}
-use Rattle.inside_count.proofs.FlagLaws.{parts-join, six-at, within-on, count-none}
+use Rattle.inside_count.proofs.FlagLaws.{parts-join, count-none}
 use Rattle.inside_count.proofs.count_inside.Statement.{statement}
 use Rattle.inside_count.proofs.count_inside.Tie as tie
 
@@ -57,9 +58,7 @@ least-requires : tie.Need-least-requires Inv-loop μ-loop
 least-requires c κs = omega (arith, c .before .before .before .before .before .before .pre .1 .at 0)
 
 indexes-requires : tie.Need-indexes-requires Inv-loop μ-loop
-indexes-requires c κs =
-    let w = c .before .before .before .before .before .before .before .pre .1 in
-    record { long = w .long; at = λ i. omega (arith, w .at i) }
+indexes-requires c κs = within-less (c .before .before .before .before .before .before .before .pre .1) (omega arith)
 
 slice-aggregate-count-part : tie.Need-slice-aggregate-count-part Inv-loop μ-loop
 slice-aggregate-count-part c = search needs

@@ -3,6 +3,7 @@ use mathlib.Core.Path.{_∙_}
 use native.Mathlib.Omega.{arith}
 use borrow.Author.Needs.{needs}
 use Rattle.points.specs.Arrays.{ofAxis}
+use Rattle.points.proofs.RunLaws.{within-less}
 use Rattle.strip_count.proofs.RunLaws.{one-reached, one-stride, arrays-bases}
 use Rattle.strip_count.proofs.count_inside.Statement.{statement}
 use Rattle.strip_count.proofs.count_inside.Tie as tie
@@ -18,7 +19,7 @@ is-walked-requires c κs =
 count-inside-requires : tie.Need-count-inside-requires
 count-inside-requires c κs =
     let s = c .before .before .before .before .before .before .before .before in
-    (s .pre .0, record { long = s .pre .1 .long; at = λ i. omega (arith, s .pre .1 .at i) }, s .pre .2)
+    (s .pre .0, within-less (s .pre .1) (omega arith), s .pre .2)
 
 returns : tie.Need-returns
 returns c = c .count-inside .ensures
