@@ -14,7 +14,7 @@ use Rattle.numbers.proofs.Cases.{lt-or-ge}
 use Rattle.plan.specs.Plan.{Plan, Valid}
 use Rattle.plan.specs.Order.{firstDue}
 use Rattle.points.specs.Point.{axisCount}
-use Rattle.points.specs.Run.{Run, inRange, runPoint}
+use Rattle.points.specs.Run.{Run, Opens, runPoint}
 use Rattle.points.proofs.RunLaws.{run-point-length}
 use Rattle.state.specs.State.{both, made, planIn, runIn, genuine}
 use Rattle.state.specs.declared.Sampler.{Sampler}
@@ -27,7 +27,7 @@ use Rattle.calls.proofs.RunLaws.{step-at, step-over, step-over-words}
 use Rattle.collector.specs.Serving.{Ended, ended, stepped, servedWithin, served, isOver}
 use Rattle.collector.proofs.LoopLaws.{stop}
 
-module _ (p : Plan) (v : Valid p) (r : Run) (fits : inRange r ≡ true) where
+module _ (p : Plan) (v : Valid p) (r : Run) (fits : Opens p r) where
   -- the words after k points: the run's last point over them, or as they were
   unfoldable pub lastOver : ℕ → List ℕ → List ℕ
   lastOver zero words = words
@@ -90,7 +90,7 @@ module _ (s : Sampler) (words : List ℕ) where
     day-end h =
         let is = genuine-is s g in
         let e = ap (λ (t : Sampler). served t words) (is .is)
-        ∙ serves-out (planIn s) (is .valid) (runIn s) (is .run .in-range) (s .taken) words (omega (arith, axes-are s g)) (is .run .not-past) in
+        ∙ serves-out (planIn s) (is .valid) (runIn s) (is .run .opens) (s .taken) words (omega (arith, axes-are s g)) (is .run .not-past) in
         (ap (λ (x : Ended). x .code) e, ap (λ (x : Ended). x .state) e)
 
   -- The loop ends at 12 exactly where the state is genuine and a point has room.

@@ -71,7 +71,7 @@ fn serve_day(s: Sampler, point: &mut [u64]) -> Day
 // Halton, bases 2 and 3, a run of four points: first lent too few words, then enough, and with no point left too few again.
 fn main() {
     let r = sampler::read(&[16, 8, 16]);
-    let o = sampler::open(r.state, 0, 4);
+    let o = sampler::open(r.state, &[0, 0], 4);
     let mut short = [0u64; 1];
     let a = serve_day(o.state, &mut short);
     let mut point = [0u64; 2];

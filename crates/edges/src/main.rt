@@ -20,29 +20,74 @@ fn reading(label: &[u8], bytes: &[u8]) {
 }
 
 // What opening this run answers.
-fn opening(label: &[u8], s: Sampler, start: u64, count: u64) {
-    let r = sampler::open(s, start, count);
+fn opening(label: &[u8], s: Sampler, starts: &[u64], count: u64) {
+    let r = sampler::open(s, starts, count);
     report(label, r.code);
 }
 
-// At the edge: where a run may start and end.
+// At the edge: where a run of two axes may start and end.
 fn edges(s: Sampler) {
-    opening(b"open start 4294967295 count 1", s, 4294967295, 1);
-    opening(b"open start 4294967295 count 2", s, 4294967295, 2);
-    opening(b"open start 4294967296 count 0", s, 4294967296, 0);
-    opening(b"open start 4294967296 count 1", s, 4294967296, 1);
+    opening(b"open start 4294967295 count 1", s, &[4294967295; 2], 1);
+    opening(b"open start 4294967295 count 2", s, &[4294967295; 2], 2);
+    opening(b"open start 4294967296 count 0", s, &[4294967296; 2], 0);
+    opening(b"open start 4294967296 count 1", s, &[4294967296; 2], 1);
     opening(
         b"open start 18446744073709551615 count 2",
         s,
-        18446744073709551615,
+        &[18446744073709551615; 2],
         2,
+    );
+}
+
+// Lists that are not one start for each of two axes; a start that is out of range comes first, also a surplus one.
+fn split_starts(s: Sampler) {
+    opening(b"open starts 0 count 4", s, &[0], 4);
+    opening(b"open starts 0 0 0 count 4", s, &[0, 0, 0], 4);
+    opening(b"open no starts count 4", s, &[], 4);
+    opening(b"open no starts count 4294967297", s, &[], 4294967297);
+    opening(b"open starts 4294967293 count 4", s, &[4294967293], 4);
+    opening(b"open starts 0 4294967293 count 4", s, &[0, 4294967293], 4);
+    opening(
+        b"open starts 0 0 4294967293 count 4",
+        s,
+        &[0, 0, 4294967293],
+        4,
+    );
+    opening(
+        b"open starts 0 0 4294967292 count 4",
+        s,
+        &[0, 0, 4294967292],
+        4,
+    );
+}
+
+// The axes of a Sobol plan share one start.
+fn sobol_starts() {
+    let r = sampler::read(&[144, 27, 248]);
+    opening(
+        b"open starts 7 8 count 4 of a Sobol plan",
+        r.state,
+        &[7, 8],
+        4,
+    );
+    opening(
+        b"open starts 7 7 count 4 of a Sobol plan",
+        r.state,
+        &[7, 7],
+        4,
+    );
+    opening(
+        b"open starts 7 4294967293 count 4 of a Sobol plan",
+        r.state,
+        &[7, 4294967293],
+        4,
     );
 }
 
 // The run of the last index alone: one point, and then none.
 fn last_index(s: Sampler) {
     let mut point = [0u64; 2];
-    let a = sampler::open(s, 4294967295, 1);
+    let a = sampler::open(s, &[4294967295; 2], 1);
     let b = sampler::step(a.state, &mut point);
     report(b"step to index 4294967295", b.code);
     let c = sampler::step(b.state, &mut point);
@@ -76,9 +121,9 @@ fn report_count(label: &[u8], r: Counted) {
     report(b"  bound", r.bound);
 }
 
-// What counting a window over a run answers.
+// What counting a window over a run from one start answers.
 fn counting(label: &[u8], s: Sampler, start: u64, count: u64, w: &[u64]) {
-    let a = sampler::open(s, start, count);
+    let a = sampler::open(s, &[start; 2], count);
     report_count(label, sampler::count(a.state, w));
 }
 
@@ -141,9 +186,43 @@ fn small_runs(s: Sampler) {
 
 // The run of all indexes, which a walk would take seconds for.
 fn whole_run(s: Sampler) {
-    let a = sampler::open(s, 0, 4294967296);
+    let a = sampler::open(s, &[0; 2], 4294967296);
     report_count(
         b"count by strips 1/2 1/3 over start 0 count 4294967296",
+        sampler::count_by_strips(a.state, &[1, 2, 1, 3]),
+    );
+}
+
+// A step, and the numerators of its point.
+fn stepping(label: &[u8], s: Sampler) -> Sampler {
+    let mut point = [0u64; 2];
+    let r = sampler::step(s, &mut point);
+    report(label, r.code);
+    report(b"  axis 1", point[0]);
+    report(b"  axis 2", point[1]);
+    r.state
+}
+
+// Starts at both ends of the range: the last two indexes on one axis with the first two on the other, stepped and counted in both ways.
+fn both_ends(s: Sampler) {
+    let a = sampler::open(s, &[4294967294, 0], 2);
+    report(b"open starts 4294967294 0 count 2", a.code);
+    let b = stepping(b"step to indexes 4294967294 0", a.state);
+    let c = stepping(b"step to indexes 4294967295 1", b);
+    stepping(b"step after them", c);
+    let w = [1, 2, 1, 3];
+    report_count(b"count 1/2 1/3 over them", sampler::count(c, &w));
+    report_count(
+        b"count by strips 1/2 1/3 over them",
+        sampler::count_by_strips(c, &w),
+    );
+}
+
+// A long run with a start for each axis, which ends at the last index on axis 2.
+fn long_apart(s: Sampler) {
+    let a = sampler::open(s, &[1, 6], 4294967290);
+    report_count(
+        b"count by strips 1/2 1/3 over starts 1 6 count 4294967290",
         sampler::count_by_strips(a.state, &[1, 2, 1, 3]),
     );
 }
@@ -236,7 +315,13 @@ fn slot_ends(s: Sampler) {
 fn blank_state() {
     let r = sampler::read(&[]);
     report(b"read no bytes", r.code);
-    opening(b"open the blank state", r.state, 0, 0);
+    opening(b"open the blank state", r.state, &[], 0);
+    opening(
+        b"open the blank state, starts 4294967296 count 1",
+        r.state,
+        &[4294967296],
+        1,
+    );
     let mut point = [0u64; 1];
     let j = sampler::jump(r.state, 0, &mut point);
     report(b"jump on the blank state", j.code);
@@ -283,7 +368,7 @@ fn empty_day_set(s: Sampler) {
 
 // No point is left, and the buffer is shorter than one: 13 comes before 12.
 fn short_at_the_end(s: Sampler) {
-    let a = sampler::open(s, 0, 0);
+    let a = sampler::open(s, &[0; 2], 0);
     let mut short = [0u64; 1];
     let b = sampler::step(a.state, &mut short);
     report(b"step of a run of 0 points into 1 word", b.code);
@@ -296,25 +381,36 @@ fn short_at_the_end(s: Sampler) {
     report(b"block of it into 1 word", e.code);
 }
 
-// A sampler whose run starts elsewhere is no day set, and the blank state makes none.
-fn foreign_day_sets(s: Sampler) {
-    let a = sampler::open(s, 1, 6);
+// What a step of a run answers when it is taken for a day set.
+fn as_day_set(label: &[u8], s: Sampler, starts: &[u64]) {
+    let a = sampler::open(s, starts, 6);
     let mut point = [0u64; 3];
     let run = a.state;
     let r = sampler::day_step(DaySet { run }, &mut point);
-    report(b"step of a run from 1 as a day set", r.code);
+    report(label, r.code);
+}
+
+// A sampler whose run starts elsewhere, on one axis or on all, is no day set, and the blank state makes none.
+fn foreign_day_sets(s: Sampler) {
+    as_day_set(b"step of a run from 0 as a day set", s, &[0, 0]);
+    as_day_set(b"step of a run from 1 as a day set", s, &[1, 1]);
+    as_day_set(b"step of a run from 0 and 1 as a day set", s, &[0, 1]);
     making(b"day set of the blank state", sampler::blank_state(), 6);
 }
 
 fn main() {
     let r = sampler::read(&[16, 8, 16]);
     edges(r.state);
+    split_starts(r.state);
+    sobol_starts();
     last_index(r.state);
     traps();
     second_index();
     windows(r.state);
     small_runs(r.state);
     whole_run(r.state);
+    both_ends(r.state);
+    long_apart(r.state);
     wrong_windows(r.state);
     seconds();
     days();

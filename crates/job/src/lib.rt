@@ -1,4 +1,4 @@
-// A job text, line by line: what the programs share. A line `plan ..` puts a plan in force, a line `run START COUNT` opens a run of it, a line
+// A job text, line by line: what the programs share. A line `plan ..` puts a plan in force, a line `run START .. COUNT` opens a run of it, a line
 // `day N` makes a day set of it in the place of a run, and a line `axes X Y` names two axes to draw; the state that they leave, and the errors,
 // which are lines of the output.
 mod axes;

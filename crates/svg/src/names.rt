@@ -48,14 +48,48 @@ fn day_set(l: Lines, out: &mut [u8], size: u64) -> Lines {
     put_between(l, out, b"day set of ", size, b" points")
 }
 
+// Whether all axes have one start.
+fn has_one_start(s: Sampler) -> bool {
+    let starts = s.starts;
+    let mut i: usize = 1;
+    while i < s.axes {
+        if sixth(starts, i as u64) != starts[0] {
+            return false;
+        }
+        i += 1;
+    }
+    true
+}
+
+// The start of each axis.
+fn each_start(l: Lines, out: &mut [u8], s: Sampler) -> Lines {
+    let all = s.starts;
+    let mut next = put(l, out, b"starts");
+    let mut i: usize = 0;
+    while i < s.axes {
+        next = put_between(next, out, b" ", sixth(all, i as u64), b"");
+        i += 1;
+    }
+    next
+}
+
+// The one start of all axes, or the start of each.
+fn starts(l: Lines, out: &mut [u8], s: Sampler) -> Lines {
+    if !has_one_start(s) {
+        return each_start(l, out, s);
+    }
+    let all = s.starts;
+    put_between(l, out, b"start ", all[0], b"")
+}
+
 // The run, or the day set.
 fn run(l: Lines, out: &mut [u8], d: Drawing) -> Lines {
     let s = d.state;
     if d.is_day {
         return day_set(l, out, s.count);
     }
-    let start = put_between(l, out, b"start ", s.start, b", count ");
-    lines::put_number(start, out, s.count)
+    let begun = starts(l, out, s);
+    put_between(begun, out, b", count ", s.count, b"")
 }
 
 // The plan and the run, as the picture's title.
@@ -82,13 +116,22 @@ fn plan_text(l: Lines, out: &mut [u8], s: Sampler) -> Lines {
     put(named, out, b"</text>\n")
 }
 
-// The run above the picture.
-fn run_text(l: Lines, out: &mut [u8], d: Drawing) -> Lines {
+// The beginning of the run above the picture; smaller where each axis has a start of its own, so that six have room.
+fn begin_run(l: Lines, out: &mut [u8], s: Sampler) -> Lines {
     let begun = put(
         l,
         out,
-        b"<text x=\"500\" y=\"-14\" text-anchor=\"middle\" fill=\"#222\">",
+        b"<text x=\"500\" y=\"-14\" text-anchor=\"middle\" fill=\"#222\"",
     );
+    if has_one_start(s) {
+        return put(begun, out, b">");
+    }
+    put(begun, out, b" font-size=\"22\">")
+}
+
+// The run above the picture.
+fn run_text(l: Lines, out: &mut [u8], d: Drawing) -> Lines {
+    let begun = begin_run(l, out, d.state);
     let named = run(begun, out, d);
     put(named, out, b"</text>\n")
 }

@@ -6,9 +6,10 @@ use mathlib.Core.List.{List}
 use Prim.Native.Nat.{ℕ, _/_, _^_, _≤_}
 use native.Mathlib.Omega.{arith}
 use lib.ListN.{length}
+use Rattle.points.proofs.RunLaws.{opens-count}
 use Rattle.state.specs.State.{planIn, runIn}
 use Rattle.state.specs.declared.Sampler.{Sampler}
-use Rattle.state.proofs.GenuineLaws.{genuine-is, genuine-range}
+use Rattle.state.proofs.GenuineLaws.{genuine-is}
 use Rattle.calls.proofs.PointLaws.{axes-few}
 use Rattle.day_set.specs.DaySet.{dayWidth}
 use Rattle.day_set.specs.declared.DaySet.{DaySet}
@@ -32,9 +33,10 @@ pub run-answered : (s : Sampler) (w : List ℕ) (r : Counted) → r ≡ countSpe
 unfolding insideCount
 run-answered s w r e z =
     let a = count-accepted s w (ap (λ (x : Counted). x .code) (sym e) ∙ z) in
+    let g = genuine-is s (a .0) in
     fits s w r (s .axes) (
       omega (arith, ap (λ (x : Counted). x .inside) (e ∙ count-done s w (a .0) (a .1)), count-le (stepInside (planIn s) (cutsOf w (s .axes)) (runIn s)) (s .count)),
-      omega (arith, genuine-range (genuine-is s (a .0))),
+      opens-count (g .run .opens) (g .valid),
       omega (arith, axes-few s (a .0)),
       a .1,
     )

@@ -4,7 +4,6 @@ use Prim.Native.Nat.{_≤_}
 use native.Mathlib.Omega.{arith}
 use lib.ListN.{length}
 use Rattle.plan.specs.Answer.{planAnswered}
-use Rattle.points.specs.Run.{runOf}
 use Rattle.points.specs.Arrays.{Arrays}
 use Rattle.walk_text.specs.Text.{textOf}
 use Rattle.text.proofs.PutLaws.{put-then}
@@ -13,7 +12,7 @@ use Rattle.walk_text.proofs.put_accepted.Statement.{statement}
 use Rattle.walk_text.proofs.put_accepted.Tie as tie
 
 arrays : (c : tie.After-make) → let s = c .make .result in Arrays (s .family) (s .axes) (s .bases) (s .directions)
-arrays c = made-arrays _ (c .before .before .pre .0 .valid) (runOf 0 0) 0 (c .make .result) (c .make .ensures)
+arrays c = made-arrays _ (c .before .before .pre .0 .valid) _ 0 (c .make .result) (c .make .ensures)
 
 make-requires : tie.Need-make-requires
 make-requires c κs = c .before .pre .0
@@ -49,7 +48,7 @@ returns c =
     let v = start .pre .0 .valid in
     let s = m .make .result in
     let room : 0 ≤ length (start .args .out .now) = omega arith in
-    rw (← made-axes p v (runOf 0 0) 0 s (m .make .ensures), ← made-lines p v (runOf 0 0) 0 s (m .make .ensures) 4)
+    rw (← made-axes p v _ 0 s (m .make .ensures), ← made-lines p v _ 0 s (m .make .ensures) 4)
     (put-then room (head .put-head .ensures .0) (last .put-lines .ensures .0))
 
 pub put-accepted-spec : {M : Type 1} → statement M
