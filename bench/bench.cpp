@@ -57,7 +57,7 @@ static void same(const Case &c) {
     size_t n = 5000, s = (size_t)c.plan.axes;
     std::vector<uint64_t> ours(n * s), plain(n * s);
     for (uint64_t start : {0u, 12345u, 4293918720u}) { // a block's run has 2^20 points
-        check(bench_blocks(c.bytes.data(), c.bytes.size(), start, 1, ours.data(), ours.size()) == n, c.name + ": a block");
+        check(blocks_of(c, Starts(start), 1, ours.data(), ours.size()) == n, c.name + ": a block");
         baseline_block(&c.plan, start, n, plain.data());
         check(ours == plain, c.name + ": points");
     }
@@ -73,6 +73,42 @@ static void same_day_set(const Case &c) {
         rows.insert(rows.end(), &plain[i * s], &plain[i * s] + s);
     }
     check(ours == rows, c.name + ": points of a day set");
+}
+
+// One axis of a plan alone, as plain C has it, and its denominator.
+static plan_t one_axis(const plan_t &p, int a) {
+    plan_t one = p;
+    one.axes = 1;
+    one.base[0] = p.base[a];
+    memcpy(one.direction[0], p.direction[a], sizeof one.direction[0]);
+    return one;
+}
+
+static uint64_t denominator(const plan_t &p) {
+    uint64_t d = p.family == 2 ? 4294967296u : p.base[0];
+    while (d < 4294967296u)
+        d *= p.base[0];
+    return d;
+}
+
+// A run with a start for each axis, by a block, by steps and by both counts, is what plain C gives on each axis alone.
+static void same_apart(const Case &c, const Starts &from, const uint64_t *window) {
+    size_t n = 5000, s = (size_t)c.plan.axes;
+    std::vector<uint64_t> ours(n * s), plain(n * s), column(n), last(s);
+    std::vector<bool> in(n, true);
+    for (size_t a = 0; a < s; a++) {
+        plan_t axis = one_axis(c.plan, (int)a);
+        baseline_block(&axis, from.at[a], n, column.data());
+        for (size_t i = 0; i < n; i++) {
+            plain[i * s + a] = column[i];
+            in[i] = in[i] && column[i] * window[2 * a + 1] < window[2 * a] * denominator(axis);
+        }
+    }
+    uint64_t inside = (uint64_t)std::count(in.begin(), in.end(), true);
+    check(blocks_of(c, from, 1, ours.data(), ours.size()) == n && ours == plain, c.name + ": points with a start for each axis");
+    check(steps_of(c, from, n, last.data(), s) == 0 && std::equal(last.begin(), last.end(), plain.end() - (long)s), c.name + ": the last by steps");
+    for (bool by_strips : {false, true})
+        check(counts_of(c, from, n, window, by_strips, 1) == inside, c.name + ": S with a start for each axis");
 }
 
 // Prints a row: the first figure is ours.
@@ -140,7 +176,7 @@ static void blocks(const std::vector<Case> &all) {
         size_t n = 100000, s = (size_t)c.plan.axes;
         std::vector<uint64_t> out(n * s);
         std::vector<Program> programs = {
-            {"ours", (double)n, [&] { bench_blocks(c.bytes.data(), c.bytes.size(), 12345, 1, out.data(), out.size()); }},
+            {"ours", (double)n, [&] { blocks_of(c, Starts(12345), 1, out.data(), out.size()); }},
             {"C", (double)n, [&] { baseline_block(&c.plan, 12345, n, out.data()); }}};
         if (is_first_primes(c)) {
             programs.push_back(gsl_points(gsl_qrng_halton, (unsigned)s));
@@ -161,7 +197,7 @@ static void small_blocks(const std::vector<Case> &all) {
         for (size_t n : {1u, 64u}) {
             std::vector<uint64_t> out(n * (size_t)c.plan.axes);
             row(c.name + ", " + std::to_string(n),
-                {{"ours", 200, [&] { bench_blocks(c.bytes.data(), c.bytes.size(), 12345, 200, out.data(), out.size()); }},
+                {{"ours", 200, [&] { blocks_of(c, Starts(12345), 200, out.data(), out.size()); }},
                  {"C", 200, [&] { for (int i = 0; i < 200; i++) baseline_block(&c.plan, 12345, n, out.data()); }}});
         }
 }
@@ -175,7 +211,7 @@ static void day_blocks(const std::vector<Case> &all) {
         std::vector<uint64_t> out(n * (s + 1));
         row(c.name, {{"ours", (double)n, [&] { bench_day_blocks(c.bytes.data(), c.bytes.size(), n, 1, out.data(), out.size()); }},
                      {"block, C", (double)n, [&] {
-                          bench_blocks(c.bytes.data(), c.bytes.size(), 0, 1, out.data(), n * s);
+                          blocks_of(c, Starts(0), 1, out.data(), n * s);
                           baseline_column(n, s + 1, out.data());
                       }}});
     }
@@ -193,7 +229,7 @@ static void counts(const std::vector<Case> &all) {
     for (const Case &c : all) {
         uint64_t n = 200000, s = 0, plain = 0;
         std::vector<uint64_t> window = window_of(c, {});
-        row(c.name, {{"ours", (double)n, [&] { s = bench_counts(c.bytes.data(), c.bytes.size(), 12345, n, window.data(), window.size(), false, 1); }},
+        row(c.name, {{"ours", (double)n, [&] { s = counts_of(c, Starts(12345), n, window.data(), false, 1); }},
                      {"C", (double)n, [&] { plain = baseline_count(&c.plan, 12345, n, window.data()); }}});
         check(s == plain, c.name + ": S");
     }
@@ -278,9 +314,7 @@ static void strips() {
             if (is_long && c.plan.base[0] == 256 && c.plan.axes == 6)
                 continue;
             auto ours = [&](bool by_strips) {
-                return [&c, n, by_strips](const Window &w, uint64_t times) {
-                    return bench_counts(c.bytes.data(), c.bytes.size(), 0, n, w.data(), w.size(), by_strips, times);
-                };
+                return [&c, n, by_strips](const Window &w, uint64_t times) { return counts_of(c, Starts(0), n, w.data(), by_strips, times); };
             };
             std::vector<Counter> counters = {
                 {"ours", ours(true), {}},
@@ -347,7 +381,7 @@ static void random_strips() {
                 Window w = random_window(r, bases.size());
                 uint64_t times = std::max<uint64_t>(1, 32768 / count);
                 auto turn = [&](int by_strips) {
-                    return [&, by_strips] { s[by_strips] = bench_counts(c.bytes.data(), c.bytes.size(), start, count, w.data(), w.size(), by_strips, times); };
+                    return [&, by_strips] { s[by_strips] = counts_of(c, Starts(start), count, w.data(), by_strips, times); };
                 };
                 std::vector<Program> both = {{"walk", 1, turn(0)}, {"ours", 1, turn(1)}};
                 std::vector<double> ns = race(both, 7);
@@ -372,7 +406,7 @@ static void day_counts(const std::vector<Case> &all) {
         print_row(c.name, "µs", {"ours", "whole", "walk"},
                   race({{"ours", us, [&] { s = bench_day_counts(c.bytes.data(), c.bytes.size(), n, quarter.data(), quarter.size(), 1); }},
                         {"whole", us, [&] { t = bench_day_counts(c.bytes.data(), c.bytes.size(), n, whole.data(), whole.size(), 1); }},
-                        {"walk", us, [&] { walked = bench_counts(c.bytes.data(), c.bytes.size(), 0, n / 4, plain.data(), plain.size(), false, 1); }}}));
+                        {"walk", us, [&] { walked = counts_of(c, Starts(0), n / 4, plain.data(), false, 1); }}}));
         check(s == baseline_count(&c.plan, 0, n / 4, plain.data()), c.name + ": S of a quarter of a day set");
         check(t == baseline_count(&c.plan, 0, n, plain.data()), c.name + ": S of a day set");
         check(s == walked, c.name + ": S of a quarter of a day set, walked");
@@ -402,22 +436,6 @@ static std::vector<uint64_t> thousand_indexes() {
     return indexes;
 }
 
-// A plan's last axis alone, as plain C has it, and its denominator.
-static plan_t last_axis(const plan_t &p) {
-    plan_t last = p;
-    last.axes = 1;
-    last.base[0] = p.base[p.axes - 1];
-    memcpy(last.direction[0], p.direction[p.axes - 1], sizeof last.direction[0]);
-    return last;
-}
-
-static uint64_t denominator(const plan_t &p) {
-    uint64_t d = p.family == 2 ? 4294967296u : p.base[0];
-    while (d < 4294967296u)
-        d *= p.base[0];
-    return d;
-}
-
 // A slot on the last axis, where the state is tested at each call, beside a jump, which has every axis, and plain C on that axis alone, which tests
 // nothing; and the second of the day beside the slot that it is.
 static void slots(const std::vector<Case> &all) {
@@ -425,7 +443,7 @@ static void slots(const std::vector<Case> &all) {
     printf("\n## A slot of 250 on the last axis: ns\n\n| plan | ours | a jump; C with tables, reciprocals and the denominator made beforehand, no test of a state; slot of 86,400 on axis 1; second |\n|---|---|---|\n");
     for (const Case &c : all) {
         uint64_t ours = 0, plain = 0, slot = 0, second = 0, out[6];
-        plan_t last = last_axis(c.plan);
+        plan_t last = one_axis(c.plan, c.plan.axes - 1);
         uint64_t d = denominator(last);
         jumper_t j;
         baseline_prepare(&last, &j);
@@ -461,8 +479,8 @@ static void calls(const std::vector<Case> &all) {
         std::vector<Program> programs = {
             {"jump", 1000, [&] { bench_jumps(plan, len, 123456789, 1000, out, 6); }},
             {"second", 1000, [&] { bench_slots(plan, len, indexes.data(), indexes.size(), 1, 86400, true); }},
-            {"step", 1000, [&] { bench_steps(plan, len, 123456789, 1000, out, 6); }},
-            {"step in place", 1000, [&] { bench_steps_in_place(plan, len, 123456789, 1000, out, 6); }},
+            {"step", 1000, [&] { steps_of(c, Starts(123456789), 1000, out, 6); }},
+            {"step in place", 1000, [&] { steps_in_place_of(c, Starts(123456789), 1000, out, 6); }},
             {"C point", 1000, jumps([&](uint32_t n) { hisowake_point(plan, len, n, bytes, 48); })},
             {"C", 1000, jumps([&](uint32_t n) { baseline_jump(&j, n, out); })}};
         if (c.plan.family == 2) {
@@ -482,8 +500,27 @@ static void permuted_steps() {
     for (const std::vector<unsigned> &bases : {SMALL_BASES, LARGE_BASES}) {
         uint64_t out[6];
         Case faure = halton(1, bases), kocis = halton(3, bases);
-        auto steps = [&](const Case &c) { bench_steps(c.bytes.data(), c.bytes.size(), 123456789, 1000, out, 6); };
+        auto steps = [&](const Case &c) { steps_of(c, Starts(123456789), 1000, out, 6); };
         row(faure.name.substr(faure.name.find(' ') + 1), {{"permuted", 1000, [&] { steps(faure); }}, {"kocis", 1000, [&] { steps(kocis); }}});
+    }
+}
+
+// A run with a start for each axis beside one with one start.
+static void starts_apart() {
+    printf("\n## A run with a start for each axis beside one with one start: ns a point, or ns a count by strips\n\n| plan, call | one start | a start for each axis, and how many times as long |\n|---|---|---|\n");
+    const Starts one(12345), each(12345, 1000003);
+    for (const Case &c : {halton(0, {2, 3, 5}), halton(1, SMALL_BASES), halton(3, LARGE_BASES)}) {
+        size_t n = 100000, s = (size_t)c.plan.axes;
+        std::vector<uint64_t> out(n * s);
+        Window window = strip_windows(c)[0];
+        same_apart(c, each, window.data());
+        auto pair = [&](const char *call, double makes, const std::function<void(const Starts &)> &turn) {
+            row(c.name + ", " + call, {{"one start", makes, [&] { turn(one); }}, {"a start each", makes, [&] { turn(each); }}});
+        };
+        pair("a step", 1000, [&](const Starts &from) { steps_of(c, from, 1000, out.data(), s); });
+        pair("a block of 100,000", (double)n, [&](const Starts &from) { blocks_of(c, from, 1, out.data(), out.size()); });
+        pair("a walked count of 100,000", (double)n, [&](const Starts &from) { counts_of(c, from, n, window.data(), false, 1); });
+        pair("a count by strips of 10^6", 1, [&](const Starts &from) { counts_of(c, from, 1000000, window.data(), true, 1); });
     }
 }
 
@@ -504,4 +541,5 @@ int main() {
     slots(all);
     calls(all);
     permuted_steps();
+    starts_apart();
 }

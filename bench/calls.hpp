@@ -10,15 +10,18 @@ extern "C" {
 #include "hisowake.h"
 #include "strips.h"
 // the calls on a state or a day set, in loops (crate bench_calls); a slice is a pointer and a length
-uint64_t bench_blocks(const uint8_t *plan, size_t plan_len, uint64_t start, uint64_t rounds, uint64_t *out, size_t out_len);
+uint64_t bench_blocks(const uint8_t *plan, size_t plan_len, const uint64_t *starts, size_t starts_len, uint64_t rounds, uint64_t *out,
+                      size_t out_len);
 uint64_t bench_day_blocks(const uint8_t *plan, size_t plan_len, uint64_t size, uint64_t rounds, uint64_t *out, size_t out_len);
 uint64_t bench_jumps(const uint8_t *plan, size_t plan_len, uint64_t first, uint64_t rounds, uint64_t *out, size_t out_len);
 uint64_t bench_slots(const uint8_t *plan, size_t plan_len, const uint64_t *indexes, size_t indexes_len, uint64_t axis, uint64_t slots, bool daily);
 uint64_t bench_axis_jumps(uint64_t family, uint64_t base, uint64_t first, uint64_t rounds);
-uint64_t bench_steps(const uint8_t *plan, size_t plan_len, uint64_t start, uint64_t rounds, uint64_t *out, size_t out_len);
-uint64_t bench_steps_in_place(const uint8_t *plan, size_t plan_len, uint64_t start, uint64_t rounds, uint64_t *out, size_t out_len);
-uint64_t bench_counts(const uint8_t *plan, size_t plan_len, uint64_t start, uint64_t count, const uint64_t *window, size_t window_len,
-                      bool by_strips, uint64_t rounds);
+uint64_t bench_steps(const uint8_t *plan, size_t plan_len, const uint64_t *starts, size_t starts_len, uint64_t rounds, uint64_t *out,
+                     size_t out_len);
+uint64_t bench_steps_in_place(const uint8_t *plan, size_t plan_len, const uint64_t *starts, size_t starts_len, uint64_t rounds, uint64_t *out,
+                              size_t out_len);
+uint64_t bench_counts(const uint8_t *plan, size_t plan_len, const uint64_t *starts, size_t starts_len, uint64_t count, const uint64_t *window,
+                      size_t window_len, bool by_strips, uint64_t rounds);
 uint64_t bench_day_counts(const uint8_t *plan, size_t plan_len, uint64_t size, const uint64_t *window, size_t window_len, uint64_t rounds);
 }
 
@@ -27,6 +30,32 @@ struct Case {
     plan_t plan;
     std::vector<uint8_t> bytes;
 };
+
+// A start for each of six axes: the first, and each so far after the one before, or the same for all.
+struct Starts {
+    uint64_t at[6];
+    explicit Starts(uint64_t first, uint64_t apart = 0) {
+        for (uint64_t a = 0; a < 6; a++)
+            at[a] = first + a * apart;
+    }
+};
+
+// The calls on a run, which take a start for each axis of the plan.
+static inline uint64_t blocks_of(const Case &c, const Starts &from, uint64_t rounds, uint64_t *out, size_t len) {
+    return bench_blocks(c.bytes.data(), c.bytes.size(), from.at, (size_t)c.plan.axes, rounds, out, len);
+}
+
+static inline uint64_t steps_of(const Case &c, const Starts &from, uint64_t rounds, uint64_t *out, size_t len) {
+    return bench_steps(c.bytes.data(), c.bytes.size(), from.at, (size_t)c.plan.axes, rounds, out, len);
+}
+
+static inline uint64_t steps_in_place_of(const Case &c, const Starts &from, uint64_t rounds, uint64_t *out, size_t len) {
+    return bench_steps_in_place(c.bytes.data(), c.bytes.size(), from.at, (size_t)c.plan.axes, rounds, out, len);
+}
+
+static inline uint64_t counts_of(const Case &c, const Starts &from, uint64_t count, const uint64_t *window, bool by_strips, uint64_t rounds) {
+    return bench_counts(c.bytes.data(), c.bytes.size(), from.at, (size_t)c.plan.axes, count, window, 2 * (size_t)c.plan.axes, by_strips, rounds);
+}
 
 static void put_bits(std::vector<uint8_t> &bytes, unsigned &at, unsigned width, unsigned value) {
     for (unsigned i = width; i-- > 0; at++) {

@@ -51,13 +51,10 @@ static std::vector<Call> calls() {
         {"second", true, [](const Case &c, uint64_t n) { bench_slots(c.bytes.data(), c.bytes.size(), lent() - 1, n, 1, 86400, true); }},
         {"slot of 250 on the last axis", true,
          [](const Case &c, uint64_t n) { bench_slots(c.bytes.data(), c.bytes.size(), lent() - 1, n, (uint64_t)c.plan.axes, 250, false); }},
-        {"step", true, [](const Case &c, uint64_t n) { bench_steps(c.bytes.data(), c.bytes.size(), 123456789, n, lent(), 6); }},
-        {"step in place", true,
-         [](const Case &c, uint64_t n) { bench_steps_in_place(c.bytes.data(), c.bytes.size(), 123456789, n, lent(), 6); }},
-        {"block of 64", true,
-         [](const Case &c, uint64_t n) { bench_blocks(c.bytes.data(), c.bytes.size(), 12345, n, lent(), 64 * (size_t)c.plan.axes); }},
-        {"count of 1,000", true,
-         [](const Case &c, uint64_t n) { bench_counts(c.bytes.data(), c.bytes.size(), 12345, 1000, lent(), 2 * (size_t)c.plan.axes, false, n); }},
+        {"step", true, [](const Case &c, uint64_t n) { steps_of(c, Starts(123456789), n, lent(), 6); }},
+        {"step in place", true, [](const Case &c, uint64_t n) { steps_in_place_of(c, Starts(123456789), n, lent(), 6); }},
+        {"block of 64", true, [](const Case &c, uint64_t n) { blocks_of(c, Starts(12345), n, lent(), 64 * (size_t)c.plan.axes); }},
+        {"count of 1,000", true, [](const Case &c, uint64_t n) { counts_of(c, Starts(12345), 1000, lent(), false, n); }},
         {"day set: block of 64", true,
          [](const Case &c, uint64_t n) { bench_day_blocks(c.bytes.data(), c.bytes.size(), 1000, n, lent(), 64 * (size_t)(c.plan.axes + 1)); }},
         {"day set: count of 1,000, leading cut 1/2", true,
@@ -145,7 +142,7 @@ static size_t strips_stack() {
         lent()[2 * a] = 16777212;
         lent()[2 * a + 1] = 16777213;
     }
-    return stack_of(true, [&] { bench_counts(c.bytes.data(), c.bytes.size(), 0, 4294967295, lent(), 12, true, 2); });
+    return stack_of(true, [&] { counts_of(c, Starts(0), 4294967295, lent(), true, 2); });
 }
 
 static void stacks() {

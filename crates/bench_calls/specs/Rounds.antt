@@ -1,6 +1,6 @@
 -- The calls in loops: what so many rounds of a call answer and leave. Definitions only.
 use mathlib.Core.Bool.{Bool, cond}
-use mathlib.Core.List.{List}
+use mathlib.Core.List.{List, []}
 use Prim.Native.Nat.{ℕ, zero, suc, _%_, _^_}
 use lib.Bits.{bitXor}
 use lib.Dec.{ltb}
@@ -29,12 +29,12 @@ abbrev pub turn : {S : Type 0} → ℕ → S → List ℕ → Turn S
 turn n s words = record { answer = n; state = s; words = words }
 
 -- the state of a plan with a run opened
-unfoldable pub openedState : List ℕ → ℕ → ℕ → Sampler
-openedState plan start count = openSpec (readSpec plan .state) (runOf start count) .state
+unfoldable pub openedState : List ℕ → List ℕ → ℕ → Sampler
+openedState plan starts count = openSpec (readSpec plan .state) (runOf starts count) .state
 
 -- the day set of a plan
 unfoldable pub madeSet : List ℕ → ℕ → DaySet
-madeSet plan size = makeSpec (openedState plan 0 0) size .set
+madeSet plan size = makeSpec (openedState plan [] 0) size .set
 
 -- the index of a round
 abbrev pub indexAt : ℕ → ℕ → ℕ

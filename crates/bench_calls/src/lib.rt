@@ -3,16 +3,17 @@ use sampler::Counted;
 use sampler::DaySet;
 use sampler::Sampler;
 ghost use mathlib.Core.Path.{_≡_};
+ghost use mathlib.Core.List.{[]};
 ghost use Rattle.window_count.specs.Call.{countSpec};
 ghost use Rattle.day_count.specs.Count.{dayCountSpec};
 ghost use Rattle.bench_calls.specs.Rounds.{openedState, madeSet, blocksOf, dayBlocksOf, jumpsOf, axisJumpsOf, slotBy, slotsOf, stepsOf, countsOf};
 
-// The state of a plan with a run opened.
-fn opened(plan: &[u8], start: u64, count: u64) -> Sampler
-    ensures { λ r. ⌜ r ≡ openedState (now (plan .entry)) start count ⌝ }
+// The state of a plan with a run opened. Without starts the opening is refused, and the state is that of the plan as read.
+fn opened(plan: &[u8], starts: &[u64], count: u64) -> Sampler
+    ensures { λ r. ⌜ r ≡ openedState (now (plan .entry)) (now (starts .entry)) count ⌝ }
 {
     let r = sampler::read(plan);
-    let o = sampler::open(r.state, start, count);
+    let o = sampler::open(r.state, starts, count);
     o.state
 }
 
@@ -20,17 +21,17 @@ fn opened(plan: &[u8], start: u64, count: u64) -> Sampler
 fn made(plan: &[u8], size: u64) -> DaySet
     ensures { λ r. ⌜ r ≡ madeSet (now (plan .entry)) size ⌝ }
 {
-    let s = opened(plan, 0, 0);
+    let s = opened(plan, &[], 0);
     let m = sampler::make_day_set(s, size);
     m.set
 }
 
 // Fills `out` by a block, `rounds` times from the same state. Answers how many points the last block has.
 #[no_mangle]
-pub extern "C" fn bench_blocks(plan: &[u8], start: u64, rounds: u64, out: &mut [u64]) -> u64
-    ensures { λ r. ⌜ (r ≡ blocksOf (openedState (now (plan .entry)) start 1048576) rounds (now (out .entry)) .answer) × (now (out .exit) ≡ blocksOf (openedState (now (plan .entry)) start 1048576) rounds (now (out .entry)) .words) ⌝ }
+pub extern "C" fn bench_blocks(plan: &[u8], starts: &[u64], rounds: u64, out: &mut [u64]) -> u64
+    ensures { λ r. ⌜ (r ≡ blocksOf (openedState (now (plan .entry)) (now (starts .entry)) 1048576) rounds (now (out .entry)) .answer) × (now (out .exit) ≡ blocksOf (openedState (now (plan .entry)) (now (starts .entry)) 1048576) rounds (now (out .entry)) .words) ⌝ }
 {
-    let s = opened(plan, start, 1048576);
+    let s = opened(plan, starts, 1048576);
     let mut points = 0;
     let mut i = 0;
     while i < rounds {
@@ -60,9 +61,9 @@ pub extern "C" fn bench_day_blocks(plan: &[u8], size: u64, rounds: u64, out: &mu
 // Jumps to `rounds` indexes. Answers the last jump's number.
 #[no_mangle]
 pub extern "C" fn bench_jumps(plan: &[u8], first: u64, rounds: u64, out: &mut [u64]) -> u64
-    ensures { λ r. ⌜ (r ≡ jumpsOf (openedState (now (plan .entry)) 0 0) first rounds (now (out .entry)) .answer) × (now (out .exit) ≡ jumpsOf (openedState (now (plan .entry)) 0 0) first rounds (now (out .entry)) .words) ⌝ }
+    ensures { λ r. ⌜ (r ≡ jumpsOf (openedState (now (plan .entry)) [] 0) first rounds (now (out .entry)) .answer) × (now (out .exit) ≡ jumpsOf (openedState (now (plan .entry)) [] 0) first rounds (now (out .entry)) .words) ⌝ }
 {
-    let s = opened(plan, 0, 0);
+    let s = opened(plan, &[], 0);
     let mut code = 0;
     let mut i = 0;
     while i < rounds {
@@ -115,9 +116,9 @@ pub extern "C" fn bench_slots(
     slots: u64,
     daily: bool,
 ) -> u64
-    ensures { λ r. ⌜ r ≡ slotsOf daily (openedState (now (plan .entry)) 0 0) axis slots (now (indexes .entry)) ⌝ }
+    ensures { λ r. ⌜ r ≡ slotsOf daily (openedState (now (plan .entry)) [] 0) axis slots (now (indexes .entry)) ⌝ }
 {
-    let s = opened(plan, 0, 0);
+    let s = opened(plan, &[], 0);
     let mut x = 0;
     let mut i = 0;
     while i < indexes.len() {
@@ -129,10 +130,10 @@ pub extern "C" fn bench_slots(
 
 // Takes `rounds` steps of a run. Answers the last step's number.
 #[no_mangle]
-pub extern "C" fn bench_steps(plan: &[u8], start: u64, rounds: u64, out: &mut [u64]) -> u64
-    ensures { λ r. ⌜ (r ≡ stepsOf (openedState (now (plan .entry)) start rounds) rounds (now (out .entry)) .answer) × (now (out .exit) ≡ stepsOf (openedState (now (plan .entry)) start rounds) rounds (now (out .entry)) .words) ⌝ }
+pub extern "C" fn bench_steps(plan: &[u8], starts: &[u64], rounds: u64, out: &mut [u64]) -> u64
+    ensures { λ r. ⌜ (r ≡ stepsOf (openedState (now (plan .entry)) (now (starts .entry)) rounds) rounds (now (out .entry)) .answer) × (now (out .exit) ≡ stepsOf (openedState (now (plan .entry)) (now (starts .entry)) rounds) rounds (now (out .entry)) .words) ⌝ }
 {
-    let mut s = opened(plan, start, rounds);
+    let mut s = opened(plan, starts, rounds);
     let mut code = 0;
     let mut i = 0;
     while i < rounds {
@@ -146,10 +147,15 @@ pub extern "C" fn bench_steps(plan: &[u8], start: u64, rounds: u64, out: &mut [u
 
 // Takes `rounds` steps of a run in place: the state is lent to each step. Answers the last refusal's number or 0.
 #[no_mangle]
-pub extern "C" fn bench_steps_in_place(plan: &[u8], start: u64, rounds: u64, out: &mut [u64]) -> u64
-    ensures { λ r. ⌜ (r ≡ stepsOf (openedState (now (plan .entry)) start rounds) rounds (now (out .entry)) .answer) × (now (out .exit) ≡ stepsOf (openedState (now (plan .entry)) start rounds) rounds (now (out .entry)) .words) ⌝ }
+pub extern "C" fn bench_steps_in_place(
+    plan: &[u8],
+    starts: &[u64],
+    rounds: u64,
+    out: &mut [u64],
+) -> u64
+    ensures { λ r. ⌜ (r ≡ stepsOf (openedState (now (plan .entry)) (now (starts .entry)) rounds) rounds (now (out .entry)) .answer) × (now (out .exit) ≡ stepsOf (openedState (now (plan .entry)) (now (starts .entry)) rounds) rounds (now (out .entry)) .words) ⌝ }
 {
-    let mut s = opened(plan, start, rounds);
+    let mut s = opened(plan, starts, rounds);
     let mut code = 0;
     let mut i = 0;
     while i < rounds {
@@ -175,15 +181,15 @@ fn counted(s: Sampler, window: &[u64], by_strips: bool) -> Counted
 #[no_mangle]
 pub extern "C" fn bench_counts(
     plan: &[u8],
-    start: u64,
+    starts: &[u64],
     count: u64,
     window: &[u64],
     by_strips: bool,
     rounds: u64,
 ) -> u64
-    ensures { λ r. ⌜ r ≡ countsOf (countSpec (openedState (now (plan .entry)) start count) (now (window .entry))) rounds ⌝ }
+    ensures { λ r. ⌜ r ≡ countsOf (countSpec (openedState (now (plan .entry)) (now (starts .entry)) count) (now (window .entry))) rounds ⌝ }
 {
-    let s = opened(plan, start, count);
+    let s = opened(plan, starts, count);
     let mut inside = 0;
     let mut i = 0;
     while i < rounds {

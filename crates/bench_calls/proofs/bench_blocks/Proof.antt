@@ -11,10 +11,10 @@ use Rattle.bench_calls.proofs.bench_blocks.Statement.{statement}
 use Rattle.bench_calls.proofs.bench_blocks.Tie as tie
 
 abbrev Inv-loop : tie.InvT-loop
-Inv-loop plan start rounds out₀ s points₀ i₀ out points i = (i ≤ rounds) × (length out ≡ length out₀) × (turn points s out ≡ blocksOf s i out₀)
+Inv-loop plan starts rounds out₀ s points₀ i₀ out points i = (i ≤ rounds) × (length out ≡ length out₀) × (turn points s out ≡ blocksOf s i out₀)
 
 abbrev μ-loop : tie.MeasureT-loop
-μ-loop plan start rounds out₀ s points₀ i₀ out points i = rounds - i
+μ-loop plan starts rounds out₀ s points₀ i₀ out points i = rounds - i
 
 opened-requires : tie.Need-opened-requires Inv-loop μ-loop
 opened-requires c κs = search needs
@@ -40,7 +40,7 @@ loop-again c =
     let s = l .before .opened .result in (
       omega arith,
       search needs,
-      rounds-next blockRound (turn 0 s (l .before .before .before .before .args .out .now)) (l .loop .i) (turn (l .loop .points) s (l .loop .out)) _ (l .loop .inv .2)
+      rounds-next blockRound (turn 0 s (l .before .before .before .before .before .args .out .now)) (l .loop .i) (turn (l .loop .points) s (l .loop .out)) _ (l .loop .inv .2)
           (λ j. turn (b .block .ensures .0 j .points) s (b .block .ensures .1 j)),
     )
 
@@ -50,7 +50,7 @@ same-length c = search needs
 returns : tie.Need-returns Inv-loop μ-loop
 returns c =
     let l = c .before in
-    let done : l .loop .i ≡ l .before .before .before .before .args .rounds = omega arith in
+    let done : l .loop .i ≡ l .before .before .before .before .before .args .rounds = omega arith in
     (rw (done, l .before .opened .ensures) at (ap (λ (t : Turn Sampler). t .answer) (l .loop .inv .2)), rw (done, l .before .opened .ensures) at (ap (λ (t : Turn Sampler). t .words) (l .loop .inv .2)))
 
 pub bench-blocks-spec : {M : Type 1} → statement M

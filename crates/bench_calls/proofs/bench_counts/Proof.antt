@@ -11,10 +11,10 @@ use Rattle.bench_calls.proofs.bench_counts.Statement.{statement}
 use Rattle.bench_calls.proofs.bench_counts.Tie as tie
 
 abbrev Inv-loop : tie.InvT-loop
-Inv-loop plan start count window by_strips rounds s inside₀ i₀ inside i = (i ≤ rounds) × (inside ≡ countsOf (countSpec s window) i)
+Inv-loop plan starts count window by_strips rounds s inside₀ i₀ inside i = (i ≤ rounds) × (inside ≡ countsOf (countSpec s window) i)
 
 abbrev μ-loop : tie.MeasureT-loop
-μ-loop plan start count window by_strips rounds s inside₀ i₀ inside i = rounds - i
+μ-loop plan starts count window by_strips rounds s inside₀ i₀ inside i = rounds - i
 
 opened-requires : tie.Need-opened-requires Inv-loop μ-loop
 opened-requires c κs = search needs
@@ -39,7 +39,7 @@ loop-again c = (omega arith, rw add-one (ap (λ (r : Counted). r .inside) (c .co
 returns : tie.Need-returns Inv-loop μ-loop
 returns c =
     let l = c .before in
-    let done : l .loop .i ≡ l .before .before .before .before .args .rounds = omega arith in
+    let done : l .loop .i ≡ l .before .before .before .before .before .args .rounds = omega arith in
     rw (done, l .before .opened .ensures) at (l .loop .inv .1)
 
 pub bench-counts-spec : {M : Type 1} → statement M

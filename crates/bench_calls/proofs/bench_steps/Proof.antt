@@ -11,10 +11,10 @@ use Rattle.bench_calls.proofs.bench_steps.Statement.{statement}
 use Rattle.bench_calls.proofs.bench_steps.Tie as tie
 
 abbrev Inv-loop : tie.InvT-loop
-Inv-loop plan start rounds out₀ s₀ code₀ i₀ out s code i = (i ≤ rounds) × (length out ≡ length out₀) × (turn code s out ≡ stepsOf s₀ i out₀)
+Inv-loop plan starts rounds out₀ s₀ code₀ i₀ out s code i = (i ≤ rounds) × (length out ≡ length out₀) × (turn code s out ≡ stepsOf s₀ i out₀)
 
 abbrev μ-loop : tie.MeasureT-loop
-μ-loop plan start rounds out₀ s₀ code₀ i₀ out s code i = rounds - i
+μ-loop plan starts rounds out₀ s₀ code₀ i₀ out s code i = rounds - i
 
 opened-requires : tie.Need-opened-requires Inv-loop μ-loop
 opened-requires c κs = search needs
@@ -39,7 +39,7 @@ loop-again c =
     let l = b .before .before .before in (
       omega arith,
       search needs,
-      rounds-next stepRound (turn 0 (l .before .opened .result) (l .before .before .before .before .args .out .now)) (l .loop .i)
+      rounds-next stepRound (turn 0 (l .before .opened .result) (l .before .before .before .before .before .args .out .now)) (l .loop .i)
           (turn (l .loop .code) (l .loop .s) (l .loop .out)) _ (l .loop .inv .2)
           (λ j. turn (b .step .ensures .0 j .code) (b .step .ensures .0 j .state) (b .step .ensures .1 j)),
     )
@@ -50,7 +50,7 @@ same-length c = search needs
 returns : tie.Need-returns Inv-loop μ-loop
 returns c =
     let l = c .before in
-    let done : l .loop .i ≡ l .before .before .before .before .args .rounds = omega arith in
+    let done : l .loop .i ≡ l .before .before .before .before .before .args .rounds = omega arith in
     (rw (done, l .before .opened .ensures) at (ap (λ (t : Turn Sampler). t .answer) (l .loop .inv .2)), rw (done, l .before .opened .ensures) at (ap (λ (t : Turn Sampler). t .words) (l .loop .inv .2)))
 
 pub bench-steps-spec : {M : Type 1} → statement M

@@ -18,8 +18,8 @@ returns : tie.Need-returns
 unfolding openedState
 returns c =
     let o = c .before in
-    let a = o .before .before .before .args in
-    ap (λ (m : Moved). m .state) (o .«open» .ensures) ∙ ap (λ (m : Moved). openSpec (m .state) (runOf (a .start) (a .count)) .state) (o .before .read .ensures)
+    let a = o .before .before .before .before .args in
+    ap (λ (m : Moved). m .state) (o .«open» .ensures) ∙ ap (λ (m : Moved). openSpec (m .state) (runOf (a .starts .now) (a .count)) .state) (o .before .read .ensures)
 
 pub opened-spec : {M : Type 1} → statement M
 opened-spec = tie.close (tie.spec read-requires open-requires returns)
