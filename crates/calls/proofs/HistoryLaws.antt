@@ -73,7 +73,7 @@ module _ {bytes : List ℕ} {s : Sampler} (l : Leaves bytes s) where
       )
 
 -- an accepted reading
-read-accepted : (bytes : List ℕ) → AllBelow 256 bytes → readSpec bytes .code ≡ 0
+pub read-accepted : (bytes : List ℕ) → AllBelow 256 bytes → readSpec bytes .code ≡ 0
     → (p : Plan) × Valid p × (bytes ≡ spell p) × (readSpec bytes .state ≡ made p (oneStart p 0 0) 0)
 unfolding readSpec readState
 read-accepted bytes below z = go (readPlan bytes) refl

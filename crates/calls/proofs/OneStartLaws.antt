@@ -3,13 +3,14 @@
 use mathlib.Core.Path.{_≡_, refl, sym, ap, ap₂, _∙_, subst}
 use mathlib.Core.Bool.{true, false}
 use mathlib.Core.Logic.{_⊎_, inl, inr}
-use mathlib.Core.List.{List, _++_}
+use mathlib.Core.List.{List, [], _∷_, _++_}
 use Prim.Native.Nat.{ℕ, zero, suc, _+_, _-_, _*_, _/_, _^_, _≤_}
 use native.Mathlib.Nat.{add-assoc, min-le-left}
 use native.Mathlib.Omega.{arith}
 use lib.ListN.{length, drop}
 use Rattle.numbers.specs.Listed.{joined}
 use Rattle.numbers.proofs.Cases.{true-or-false}
+use Rattle.bits.specs.Stream.{AllBelow}
 use Rattle.plan.specs.Order.{firstDue, unlessDue}
 use Rattle.plan.specs.Plan.{Plan, Valid}
 use Rattle.points.specs.Point.{pointOf}
@@ -20,10 +21,12 @@ use Rattle.state.specs.State.{made, planIn, runIn, genuine}
 use Rattle.state.specs.declared.Sampler.{Sampler}
 use Rattle.state.proofs.PlanLaws.{plan-in-made, run-in-made}
 use Rattle.state.proofs.GenuineLaws.{Genuine, genuine-is, made-genuine}
-use Rattle.calls.specs.Calls.{openSpec, jumpBuf, runRefusals, stepSpec, stepBuf, blockSize, blockSpec, blockBuf}
-use Rattle.calls.specs.OneStart.{oneOpen, HasOne, AsBefore}
+use Rattle.calls.specs.Calls.{moved, blocked, readSpec, openSpec, jumpBuf, runRefusals, stepSpec, stepBuf, blockSize, blockSpec, blockBuf}
+use Rattle.calls.specs.History.{Request, step, block, movedBy, allMoved, stateAfter}
+use Rattle.calls.specs.OneStart.{oneOpen, oneStep, oneStepBuf, oneBlock, oneBlockBuf, HasOne, AsBefore}
 use Rattle.calls.proofs.CaseLaws.{open-foreign, open-out, open-accepted, open-done, jump-done, run-cleared, step-refused, step-done, block-refused, block-done}
 use Rattle.calls.proofs.PointLaws.{axes-are, axes-few, known-has}
+use Rattle.calls.proofs.HistoryLaws.{read-accepted}
 
 -- ---- the opening
 
@@ -125,14 +128,31 @@ module _ (start : ℕ) (s : Sampler) (h : HasOne start s) where
       ∙ ap (λ (x : List ℕ). x ++ drop (s .axes) buf) (sym (point (s .taken))) ∙ sym (step-done s buf z .1)
 
   pub as-before : AsBefore start s
-  unfolding stepBuf blockBuf
+  unfolding stepSpec stepBuf blockSpec blockBuf oneStep oneStepBuf oneBlock oneBlockBuf
   as-before =
       record {
-        step = λ buf. ap (λ (x : List ℕ). unlessDue (runRefusals s buf) (x ++ drop (s .axes) buf) buf) (point (s .taken));
+        step = λ buf. (
+          ap (λ (r : Run). moved (firstDue (runRefusals s buf)) (unlessDue (runRefusals s buf) (made p r (s .taken + 1)) s)) (h .one),
+          ap (λ (x : List ℕ). unlessDue (runRefusals s buf) (x ++ drop (s .axes) buf) buf) (point (s .taken)),
+        );
         stepped = stepped;
-        block = λ buf.
-            ap (λ (x : List ℕ). unlessDue (runRefusals s buf) (x ++ drop (blockSize s buf * s .axes) buf) buf)
-            (joined-from (runPoint p (runIn s)) (pointOf p) start point (s .taken) (blockSize s buf));
+        block = λ buf. (
+          ap (λ (r : Run). blocked (firstDue (runRefusals s buf)) (unlessDue (runRefusals s buf) (blockSize s buf) 0) (unlessDue (runRefusals s buf) (made p r (s .taken + blockSize s buf)) s)) (h .one),
+          ap (λ (x : List ℕ). unlessDue (runRefusals s buf) (x ++ drop (blockSize s buf * s .axes) buf) buf)
+          (joined-from (runPoint p (runIn s)) (pointOf p) start point (s .taken) (blockSize s buf)),
+        );
         filled = filled;
         jump = jump;
       }
+
+-- any steps and blocks after it leave such a state
+pub one-served : (start : ℕ) (requests : List Request) (s : Sampler) → HasOne start s → HasOne start (stateAfter requests s)
+unfolding allMoved movedBy
+one-served start [] s h = h
+one-served start (step buf ∷ requests) s h = one-served start requests (stepSpec s buf .state) (stepped start s h buf)
+one-served start (block buf ∷ requests) s h = one-served start requests (blockSpec s buf .state) (filled start s h buf)
+
+-- and an accepted reading leaves one, from 0 on
+pub one-read : (bytes : List ℕ) → AllBelow 256 bytes → readSpec bytes .code ≡ 0 → HasOne 0 (readSpec bytes .state)
+one-read bytes below z =
+    let a = read-accepted bytes below z in subst (HasOne 0) (sym (a .3)) (one-made (a .0) (a .1) 0 0 0 (omega arith) (omega arith))

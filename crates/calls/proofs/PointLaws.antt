@@ -2,18 +2,20 @@
 use mathlib.Core.Path.{_≡_, sym, ap, ap₂, _∙_}
 use mathlib.Core.Bool.{true, cond}
 use mathlib.Core.List.{List, _++_}
-use Prim.Native.Nat.{ℕ, _^_, _≤_, _<_}
+use Prim.Native.Nat.{ℕ, _+_, _^_, _≤_, _<_}
+use native.Mathlib.Nat.{add-assoc}
 use native.Mathlib.Omega.{arith}
 use lib.Dec.{ltb}
-use lib.ListN.{length, take, drop, replicate}
+use lib.ListN.{length, take, drop, getD, replicate}
+use lib.Seq.{getD-take}
 use Rattle.numbers.specs.Listed.{listed, padded}
 use Rattle.numbers.proofs.ListedLaws.{listed-length, padded-take}
 use Rattle.bits.specs.Stream.{overwrite}
 use Rattle.bits.proofs.OverwriteLaws.{over-start}
 use Rattle.plan.specs.Plan.{Plan, Valid}
 use Rattle.points.specs.Point.{axisCount, numeratorOf, denominatorOf, pointOf}
-use Rattle.points.specs.Run.{Run, runOf, indexAt, inRange, hasStarts, Opens, runPoint}
-use Rattle.points.proofs.RunLaws.{run-point-length}
+use Rattle.points.specs.Run.{Run, runOf, indexAt, indexesAt, inRange, hasStarts, Opens, runPoint}
+use Rattle.points.proofs.RunLaws.{six-at, run-point-length}
 use Rattle.points.specs.Arrays.{numeratorAt, denominatorAt, pointAt, Arrays, Within}
 use Rattle.points.proofs.PointLaws.{axis-count, denominator-of-lt, numerator-of-lt, point-of-length}
 use Rattle.points.proofs.ArrayLaws.{numerator-at-plan, denominator-at-plan}
@@ -95,6 +97,16 @@ module _ (s : Sampler) (g : genuine s ≡ true) where
   pub known-has : {r : Run} → Opens (planIn s) r → hasStarts (s .family) (s .axes) (r .starts) ≡ true
   known-has {r} o =
       ap₂ (λ (family axes : ℕ). hasStarts family axes (r .starts)) (genuine-holds is .family-is) axes-are ∙ o .has-starts
+
+  -- from the indexes of a step on, each axis reads the run's
+  pub from-step : (t : ℕ) (ns : List ℕ) → ns ≡ indexesAt (runOf (s .starts) (s .count)) t → (i k : ℕ) → i < s .axes
+      → getD ns i 0 + k ≡ indexAt (runIn s) i (t + k)
+  unfolding indexAt
+  from-step t ns e i k l =
+      ap (λ (n : List ℕ). getD n i 0 + k) e
+      ∙ ap (λ (n : ℕ). n + k) (six-at (genuine-within is) (s .count) t i (omega (arith, axes-few)))
+      ∙ add-assoc (getD (s .starts) i 0) t k
+      ∙ ap (λ (n : ℕ). n + (t + k)) (sym (getD-take (s .axes) (s .starts) i 0 l))
 
   -- ---- one axis
 

@@ -7,21 +7,19 @@ use Prim.Native.Nat.{ℕ, zero, suc, _+_, _*_, _/_, _≤_, _<_, min}
 use native.Mathlib.Nat.{zero-add, add-assoc, le-trans, mul-le-mul-right, div-mul-le-self, min-le-left, min-le-right}
 use native.Mathlib.Omega.{arith}
 use lib.ListN.{drop, getD}
-use lib.Seq.{getD-take}
 use Rattle.numbers.specs.Listed.{joined}
 use Rattle.columns.specs.Rows.{Columns, rows}
 use Rattle.columns.proofs.ColumnLaws.{columns-empty, columns-rows, columns-unchanged, columns-list}
 use Rattle.plan.specs.Order.{firstDue}
 use Rattle.points.specs.Point.{numeratorOf}
-use Rattle.points.specs.Run.{runOf, indexAt, indexesAt, runNumerator, runPoint, runPoints}
+use Rattle.points.specs.Run.{runOf, indexesAt, runNumerator, runPoint, runPoints}
 use Rattle.points.specs.Arrays.{ofAxis, numeratorFrom, numeratorsFrom}
-use Rattle.points.proofs.RunLaws.{six-at}
 use Rattle.state.specs.State.{planIn, runIn, genuine}
 use Rattle.state.specs.declared.Sampler.{Sampler}
 use Rattle.calls.specs.Calls.{blocked, runRefusals, blockSize, blockSpec, blockBuf, rowsRefusals, rowsSpec, rowNumerator}
 use Rattle.calls.specs.declared.Blocked.{Blocked}
 use Rattle.calls.proofs.CaseLaws.{run-cleared, block-refused, block-done, rows-refused}
-use Rattle.calls.proofs.PointLaws.{axes-are, axes-few, known-run, known-numerator}
+use Rattle.calls.proofs.PointLaws.{axes-are, axes-few, from-step, known-numerator}
 
 -- ---- how many
 
@@ -36,15 +34,9 @@ module _ (s : Sampler) where
 
   pub row-numerators : genuine s ≡ true → (ns : List ℕ) → ns ≡ indexesAt (runOf (s .starts) (s .count)) (s .taken) → (i : ℕ) → i < s .axes → (k : ℕ)
       → numeratorsFrom (s .family) (s .bases) (s .directions) (ofAxis ns) i k ≡ rowNumerator s i k
-  unfolding numeratorsFrom numeratorFrom rowNumerator runNumerator indexAt
+  unfolding numeratorsFrom numeratorFrom rowNumerator runNumerator
   row-numerators g ns e i l k =
-      let six : i < 6 = omega (arith, axes-few s g) in
-      known-numerator s g i l (getD ns i 0 + k)
-      ∙ ap (λ (n : ℕ). numeratorOf (planIn s) n i)
-      (ap (λ (n : List ℕ). getD n i 0 + k) e
-      ∙ ap (λ (n : ℕ). n + k) (six-at (known-run s g .0) (s .count) (s .taken) i six)
-      ∙ add-assoc (getD (s .starts) i 0) (s .taken) k
-      ∙ ap (λ (n : ℕ). n + (s .taken + k)) (sym (getD-take (s .axes) (s .starts) i 0 l)))
+      known-numerator s g i l (getD ns i 0 + k) ∙ ap (λ (n : ℕ). numeratorOf (planIn s) n i) (from-step s g (s .taken) ns e i k l)
 
   -- ---- a refusal: no points, and no word changed
 

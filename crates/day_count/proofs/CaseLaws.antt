@@ -15,7 +15,7 @@ use Rattle.plan.proofs.OrderLaws.{none-due, other-due}
 use Rattle.points.specs.Arrays.{familyOf, ofAxis}
 use Rattle.points.specs.Run.{oneStart}
 use Rattle.points.proofs.PointLaws.{axis-count}
-use Rattle.points.proofs.RunLaws.{opens-count, one-zeros}
+use Rattle.points.proofs.RunLaws.{opens-count, from-padded, one-zeros}
 use Rattle.state.proofs.GenuineLaws.{Genuine, genuine-is}
 use Rattle.state.proofs.StateLaws.{genuine-holds}
 use Rattle.calls.proofs.HistoryLaws.{none-15}
@@ -71,7 +71,7 @@ module _ (d : DaySet) (w : List ℕ) where
       day-count-in-arrays e f =
           let c = window-cuts w (dayWidth d) h in
           let l = cutAt w 0 in
-          rw (e, f) (count-in-arrays (d .run) (drop 2 w) (day-is d g .1) (dayRun (dayPlan d) (cutLimit (l .u) (l .q) (daySize d))) (one-zeros (dayPlan d) 0 (cutLimit (l .u) (l .q) (daySize d)) (axis-count (dayPlan d) (genuine-is (d .run) (day-is d g .1) .valid) .1) refl)
+          rw (e, f) (count-in-arrays (d .run) (drop 2 w) (day-is d g .1) (dayRun (dayPlan d) (cutLimit (l .u) (l .q) (daySize d))) _ (λ i t b. from-padded _ (one-zeros (dayPlan d) 0 (cutLimit (l .u) (l .q) (daySize d)) (axis-count (dayPlan d) (genuine-is (d .run) (day-is d g .1) .valid) .1) refl) i t)
           ∙ sym (day-first (dayPlan d) (cutsOf w (dayWidth d)) (daySize d) (c .q-pos 0 (omega arith)) (c .u-le 0 (omega arith))
           ∙ rw (cuts-rest w (d .run .axes), cuts-at w (dayWidth d) 0 (omega arith), uOf, qOf) refl))
 

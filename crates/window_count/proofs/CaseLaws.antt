@@ -3,17 +3,14 @@ use mathlib.Core.Path.{_≡_, refl, sym, ap, _∙_}
 use mathlib.Core.Bool.{true, false, not}
 use mathlib.Core.Logic.{_↔_}
 use mathlib.Core.List.{List, []}
-use Prim.Native.Nat.{ℕ}
+use Prim.Native.Nat.{ℕ, _+_, _<_}
 use native.Mathlib.Omega.{arith}
 use lib.Dec.{eqb}
 use borrow.Author.Tests.{not-false}
 use Rattle.numbers.specs.Count.{count}
-use Rattle.numbers.specs.Listed.{padded}
 use Rattle.plan.specs.Order.{firstDue, unlessDue}
 use Rattle.plan.proofs.OrderLaws.{none-due, other-due, none-given}
-use Rattle.points.specs.Run.{Run}
-use Rattle.points.specs.Arrays.{ofAxis}
-use Rattle.points.proofs.RunLaws.{from-padded}
+use Rattle.points.specs.Run.{Run, indexAt}
 use Rattle.state.specs.State.{planIn, runIn, genuine}
 use Rattle.state.specs.declared.Sampler.{Sampler}
 use Rattle.state.proofs.GenuineLaws.{Genuine, genuine-is}
@@ -56,12 +53,12 @@ module _ (s : Sampler) (w : List ℕ) where
     is : Genuine s
     is = genuine-is s g
 
-    -- over any run of the state's plan, by its starts with zeros after them
-    pub count-in-arrays : (r : Run) {starts : List ℕ} → starts ≡ padded 6 (r .starts)
-        → count (insideFrom (s .family) (s .bases) (s .directions) w (s .axes) (ofAxis starts)) (r .count) ≡ insideCount (planIn s) (cutsOf w (s .axes)) r
-    count-in-arrays r e =
+    -- over any run of the state's plan, by its first indexes
+    pub count-in-arrays : (r : Run) (n : ℕ → ℕ) → ((i t : ℕ) → i < s .axes → n i + t ≡ indexAt r i t)
+        → count (insideFrom (s .family) (s .bases) (s .directions) w (s .axes) n) (r .count) ≡ insideCount (planIn s) (cutsOf w (s .axes)) r
+    count-in-arrays r n same =
         let h = genuine-holds is in
-        count-held (planIn s) (h .family-is) (h .axes-is) (h .bases-is) (is .valid) (h .directions-is) w r _ (λ i t l. from-padded r e i t)
+        count-held (planIn s) (h .family-is) (h .axes-is) (h .bases-is) (is .valid) (h .directions-is) w r n (λ i t l. same i t (omega (arith, h .axes-is)))
         ∙ ap (λ (k : ℕ). insideCount (planIn s) (cutsOf w k) r) (sym (h .axes-is))
 
     pub bound-known : (N : ℕ) → boundBy (eqb (s .family) 2) (s .bases) N (s .axes) ≡ boundOf (planIn s) N

@@ -11,9 +11,8 @@ use Rattle.plan.specs.Plan.{Plan}
 use Rattle.points.specs.Point.{axisCount, numeratorOf, denominatorOf}
 use Rattle.points.specs.Run.{oneStart, runNumerator}
 use Rattle.points.proofs.RunLaws.{one-index}
-use Rattle.state.specs.State.{planIn}
+use Rattle.state.specs.State.{planIn, runIn}
 use Rattle.state.specs.declared.Sampler.{Sampler}
-use Rattle.calls.specs.OneStart.{HasOne}
 use Rattle.window.specs.Counting.{Cut, noCut, inCut, axisInside, stepInside, insideCount, boundOf, cutsOf}
 use Rattle.window_count.specs.Call.{counted, countRefusals, countSpec}
 use Rattle.window_count.specs.OneStart.{indexInside, oneCount}
@@ -30,9 +29,9 @@ module _ (p : Plan) (w : List Cut) (start N : ℕ) where
       count-ext (stepInside p w (oneStart p start N)) (λ t. indexInside p w (start + t)) N
       (λ t h. each-ext (axisInside p w (oneStart p start N) t) (λ i. inCut (getD w i noCut) (numeratorOf p (start + t) i) (denominatorOf p i)) (axisCount p) (one-axis t))
 
--- of any state that accepted calls leave, and any window
-pub one-counted : (start : ℕ) (s : Sampler) → HasOne start s → (w : List ℕ) → countSpec s w ≡ oneCount start s w
+-- of any state whose run has one start, foreign ones included, and any window
+pub one-counted : (start : ℕ) (s : Sampler) → runIn s ≡ oneStart (planIn s) start (s .count) → (w : List ℕ) → countSpec s w ≡ oneCount start s w
 unfolding countSpec oneCount
-one-counted start s h w =
+one-counted start s one w =
     ap (λ (n : ℕ). counted (firstDue (countRefusals s w)) (unlessDue (countRefusals s w) n 0) (unlessDue (countRefusals s w) (boundOf (planIn s) (s .count)) 0))
-    (ap (insideCount (planIn s) (cutsOf w (s .axes))) (h .one) ∙ one-inside (planIn s) (cutsOf w (s .axes)) start (s .count))
+    (ap (insideCount (planIn s) (cutsOf w (s .axes))) one ∙ one-inside (planIn s) (cutsOf w (s .axes)) start (s .count))

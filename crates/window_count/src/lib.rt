@@ -66,13 +66,14 @@ fn counted_by(s: Sampler, w: &[u64], by_strips: bool) -> Counted
     if !window::is_window(w, axes) {
         return refused(refusal::BAD_WINDOW);
     }
+    let ns = points::indexes(&s.starts, 0);
     let inside = inside_by(
         by_strips,
         s.family,
         axes,
         &s.bases,
         &s.directions,
-        &s.starts,
+        &ns,
         s.count as usize,
         w,
     );

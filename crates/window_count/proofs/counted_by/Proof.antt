@@ -1,12 +1,16 @@
 -- One case law a return; the state's arrays count its plan's points. Assumes nothing.
-use mathlib.Core.Path.{_≡_, sym, _∙_}
+use mathlib.Core.Path.{_≡_, sym, ap, _∙_}
 use mathlib.Core.Bool.{true, false}
-use Prim.Native.Nat.{ℕ}
+use Prim.Native.Nat.{ℕ, _+_, _<_}
+use native.Mathlib.Nat.{zero-add}
 use native.Mathlib.Omega.{arith}
 use borrow.Author.Needs.{needs}
+use lib.ListN.{getD}
+use Rattle.points.specs.Run.{indexAt}
+use Rattle.points.proofs.RunLaws.{within-less, within-on}
 use Rattle.state.specs.State.{runIn, genuine}
 use Rattle.calls.proofs.CaseLaws.{foreign-of, known-of}
-use Rattle.calls.proofs.PointLaws.{axes-few, known-arrays, known-starts, known-run}
+use Rattle.calls.proofs.PointLaws.{axes-few, known-arrays, known-run, from-step}
 use Rattle.window.specs.Counting.{isWindow}
 use Rattle.window.proofs.RangeLaws.{window-room}
 use Rattle.window_count.specs.Call.{counted}
@@ -50,13 +54,21 @@ returns-2 c = c .refused2 .ensures ∙ sym (count-off _ _ (known (c .before .bef
 
 -- where the points are counted, the window is taken
 abbrev taken : tie.After-inside-by → tie.Else2
-taken c = c .before .before .before .before .before .before .before .before
+taken c = c .before .before .before .before .before .before .before .before .before .before .before
+
+indexes-requires : tie.Need-indexes-requires
+indexes-requires c κs = within-less (known-run _ (known (c .before .before .before .before .before)) .0) (omega arith)
+
+slice-aggregate-inside-by : tie.Need-slice-aggregate-inside-by
+slice-aggregate-inside-by c = search needs
 
 inside-by-requires : tie.Need-inside-by-requires
 inside-by-requires c κs =
-    let w = c .before .before .before .before .before .before .before in
+    let w = c .before .before .before .before .before .before .before .before .before .before in
     let k = known (w .before .before) in
-    (known-arrays _ k, known-run _ k .0, window-room _ _ (fits w))
+    let t = start (w .before .before .before) .args .t1 in
+    let ns = c .before .before .before .before .before .before .indexes in
+    (known-arrays _ k, rw (ns .ensures (t .count)) (within-on (known-run _ k .0) (t .count) 0 (omega arith)), window-room _ _ (fits w))
 
 bound-requires : tie.Need-bound-requires
 bound-requires c κs =
@@ -71,7 +83,10 @@ returns-3 c =
     let p = c .before .before .before .before .before .before in
     let k = known (taken p .before .before) in
     let a = start (taken p .before .before .before) .args in
-    answer (p .inside-by .ensures ∙ count-in-arrays (a .t1) (a .w .now) k (runIn (a .t1)) (known-starts (a .t1) k)) (c .bound .ensures ∙ bound-known (a .t1) (a .w .now) k (a .t1 .count))
+    let ns = p .before .before .before .before .before .before .before .indexes in
+    let first : (i t : ℕ) → i < a .t1 .axes → getD (ns .result) i 0 + t ≡ indexAt (runIn (a .t1)) i t =
+    λ i t l. from-step (a .t1) k 0 (ns .result) (ns .ensures (a .t1 .count)) i t l ∙ ap (indexAt (runIn (a .t1)) i) (zero-add t) in
+    answer (p .inside-by .ensures ∙ count-in-arrays (a .t1) (a .w .now) k (runIn (a .t1)) _ first) (c .bound .ensures ∙ bound-known (a .t1) (a .w .now) k (a .t1 .count))
     ∙ sym (count-done _ _ k (fits (taken p)))
 
 pub counted-by-spec : {M : Type 1} → statement M
@@ -84,6 +99,8 @@ counted-by-spec =
     is-window-requires
     refused-requires-2
     returns-2
+    indexes-requires
+    slice-aggregate-inside-by
     inside-by-requires
     bound-requires
     returns-3)
