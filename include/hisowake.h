@@ -60,7 +60,7 @@ extern "C" {
 
 /*
  * The answers. The numbers 12 (a run has no point left), 15 (a state that no call has left), 16 (a slot count or an axis that is out of range) and
- * 17 (not one start for each axis) belong to the calls on a state, which hosts do not have.
+ * 17 (not one start for each axis, or unequal starts of a Sobol plan) belong to the calls on a state, which hosts do not have.
  */
 enum hisowake_code {
     HISOWAKE_OK = 0,
