@@ -139,7 +139,7 @@ module _ (start : ℕ) (s : Sampler) (h : HasOne start s) where
         block = λ buf. (
           ap (λ (r : Run). blocked (firstDue (runRefusals s buf)) (unlessDue (runRefusals s buf) (blockSize s buf) 0) (unlessDue (runRefusals s buf) (made p r (s .taken + blockSize s buf)) s)) (h .one),
           ap (λ (x : List ℕ). unlessDue (runRefusals s buf) (x ++ drop (blockSize s buf * s .axes) buf) buf)
-          (joined-from (runPoint p (runIn s)) (pointOf p) start point (s .taken) (blockSize s buf)),
+              (joined-from (runPoint p (runIn s)) (pointOf p) start point (s .taken) (blockSize s buf)),
         );
         filled = filled;
         jump = jump;
