@@ -4,7 +4,7 @@ use mathlib.Core.Path.{_≡_, refl, sym, ap, _∙_}
 use mathlib.Core.Bool.{true}
 use mathlib.Core.List.{List, _++_}
 use Prim.Native.Nat.{ℕ, zero, suc, _+_, _*_, _/_, _≤_, _<_, min}
-use native.Mathlib.Nat.{zero-add, add-assoc, le-trans, mul-le-mul-right, div-mul-le-self, min-le-left, min-le-right}
+use native.Mathlib.Nat.{zero-add, le-trans, mul-le-mul-right, div-mul-le-self, min-le-left, min-le-right}
 use native.Mathlib.Omega.{arith}
 use lib.ListN.{drop, getD}
 use Rattle.numbers.specs.Listed.{joined}
