@@ -1,6 +1,7 @@
 -- What each call answers, for all inputs, and what each lent word then holds (01-scope.md, "Runs and windows" and "When a call is turned
--- down"). A call's refusals stand in the papers' order: 01's, and 02's for steps and blocks (K3), for slots (K4) and for an opening (K6). A refusal answers its number and
--- zero for every other number, the state as given (a refused reading: the blank state), and changes no lent word. Definitions only.
+-- down"). A call's refusals stand in the papers' order: 01's, and 02's for steps and blocks (K3), for slots (K4) and for an opening (K6). A refusal
+-- answers its number and zero for every other number, the state as given (a refused reading: the blank state), and changes no lent word.
+-- Definitions only.
 use mathlib.Core.Bool.{Bool, not, _&&_}
 use mathlib.Core.List.{List, [], _∷_, _++_}
 use Prim.Native.Nat.{ℕ, _+_, _-_, _*_, _/_, _^_, min}

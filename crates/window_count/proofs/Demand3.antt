@@ -88,10 +88,9 @@ module _ (p : Plan) (v : Valid p) (r : Run) (fits : Opens p r) (taken : ℕ) (fe
     λ f. rw answered (plan-near p f v (axisCount p) refl r fits w takes),
   )
 
--- Any bytes read with code 0 are the spelling of one valid plan p. Where p is of a Halton family: for every run opened with code 0, with any
--- start on each axis, any steps and
--- blocks after it, and every window that the count then takes, the numbers in its answer are S over the whole run and the bound, and S lies within
--- the bound of the window's share. And that holds of S for every cut u / q, also of those that the call does not take.
+-- Any bytes read with code 0 are the spelling of one valid plan p. Where p is of a Halton family: for every run opened with code 0, with any start
+-- on each axis, any steps and blocks after it, and every window that the count then takes, the numbers in its answer are S over the whole run and the
+-- bound, and S lies within the bound of the window's share. And that holds of S for every cut u / q, also of those that the call does not take.
 pub demand-3-answered : (bytes : List ℕ) → AllBelow 256 bytes → readSpec bytes .code ≡ 0
     → (p : Plan) × Valid p × (bytes ≡ spell p)
     × ((r : Run) → let o = openSpec (readSpec bytes .state) r in o .code ≡ 0 → (requests : List Request)
