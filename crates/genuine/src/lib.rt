@@ -2,7 +2,7 @@
 ghost use mathlib.Core.Path.{_≡_};
 ghost use mathlib.Core.Bool.{true};
 ghost use mathlib.Core.Logic.{_↔_};
-ghost use Prim.Native.Nat.{_<_, _≤_};
+ghost use Prim.Native.Nat.{_+_, _<_, _≤_};
 ghost use lib.ListN.{length};
 ghost use Rattle.fitting.specs.Fits.{ZeroFrom, CoprimeTo, FitBases, FitHalton, NewTo, FitAxes, FitSobol, FitPlan, FitRun, FitPoint, FitNext, Sized};
 ghost use Rattle.points.specs.Arrays.{ofAxis, Arrays, Within};
@@ -179,21 +179,22 @@ fn is_run(family: u64, axes: usize, starts: &[u64], count: u64, taken: u64) -> b
     taken <= count
 }
 
-// Whether the words of `x` are the point of an index for each axis.
+// Whether the words of `x` are the point `t` places after the first index of each axis.
 fn is_point<'a>(
     family: u64,
     axes: usize,
     bases: &'a [u64],
     directions: &'a [u64],
-    x: &[u64],
-    ns: &[u64],
+    x: &'a [u64],
+    starts: &'a [u64],
+    t: u64,
 ) -> bool
-    requires { ⌜ Arrays family axes (now bases) (now directions) × (length (now x) ≡ 6) × Within (now ns) 1 ⌝ }
-    ensures { λ r. ⌜ (r ≡ true) ↔ FitPoint family axes (now (bases .entry)) (now (directions .entry)) (now (x .entry)) (ofAxis (now (ns .entry))) ⌝ }
+    requires { ⌜ Arrays family axes (now bases) (now directions) × (length (now x) ≡ 6) × Within (now starts) (t + 1) ⌝ }
+    ensures { λ r. ⌜ (r ≡ true) ↔ FitPoint family axes (now (bases .entry)) (now (directions .entry)) (now (x .entry)) (λ i. ofAxis (now (starts .entry)) i + t) ⌝ }
 {
     let mut axis = 0;
     while axis < axes {
-        let y = points::numerator(family, bases, directions, ns[axis], axis);
+        let y = points::numerator(family, bases, directions, starts[axis] + t, axis);
         if x[axis] != y {
             return false;
         }
@@ -209,7 +210,7 @@ fn is_next<'a>(
     bases: &'a [u64],
     directions: &'a [u64],
     x: &'a [u64],
-    starts: &[u64],
+    starts: &'a [u64],
     count: u64,
     taken: u64,
 ) -> bool
@@ -217,8 +218,7 @@ fn is_next<'a>(
     ensures { λ r. ⌜ (r ≡ true) ↔ FitNext family axes (now (bases .entry)) (now (directions .entry)) (now (x .entry)) (runOf (now (starts .entry)) count) taken ⌝ }
 {
     if taken < count {
-        let ns = points::indexes(starts, taken);
-        return is_point(family, axes, bases, directions, x, &ns);
+        return is_point(family, axes, bases, directions, x, starts, taken);
     }
     is_zero(x, 0)
 }

@@ -56,10 +56,10 @@ pub record Stepping (σ : ℕ → ℕ) (b t w rest y : ℕ) : Type 0 where
   pub here : y ≡ numeratorTo σ b left rest
   pub there : numeratorTo σ b left (rest + 1) ≡ t
 
-pub stepping-start : (σ : ℕ → ℕ) (b n : ℕ) {d x : ℕ} → d ≡ denominator b → x ≡ numerator σ b n → Stepping σ b (numerator σ b (n + 1)) (d / b) n x
+pub stepping-start : (σ : ℕ → ℕ) (b n : ℕ) {w x : ℕ} → w ≡ denominator b / b → x ≡ numerator σ b n → Stepping σ b (numerator σ b (n + 1)) w n x
 unfolding denominator numerator
 stepping-start σ b n e h =
-    record { left = depth b; within = le-refl (depth b); weight = ap (λ (p : ℕ). p / b) e; here = h; there = refl }
+    record { left = depth b; within = le-refl (depth b); weight = e; here = h; there = refl }
 
 module _ {σ : ℕ → ℕ} {b t w rest y : ℕ} (a : Stepping σ b t w rest y) (p : Permutes b σ) (big : 2 ≤ b) where
   -- both numerators are below the denominator

@@ -1,7 +1,6 @@
 // The Halton axis: the numerator of an index by jump and by step, over the digit images of any family.
 ghost use mathlib.Core.Path.{_≡_};
 ghost use Prim.Native.Nat.{_+_, _^_, _<_, _≤_};
-ghost use Rattle.numbers.specs.Depth.{denominator};
 ghost use Rattle.permutation.specs.Families.{imageOf};
 ghost use Rattle.halton.specs.Axis.{numerator};
 ghost use Rattle.halton.specs.Images.{imageIn, imageBy, DigitMap};
@@ -47,12 +46,12 @@ pub fn jump(family: u64, b: u64, images: &[u8], n: u64) -> Reversed
     Reversed { numerator: x }
 }
 
-// The numerator of index `n + 1` from that of index `n`, which is `x`: the carry goes to the right. `d` is the denominator.
-pub fn step(family: u64, b: u64, d: u64, n: u64, x: u64) -> u64
-    requires { ⌜ (2 ≤ b) × (b ≤ 256) × (d ≡ denominator b) × (x ≡ numerator (imageOf family b) b n) ⌝ }
+// The numerator of index `n + 1` from that of index `n`, which is `x`: the carry goes to the right.
+pub fn step(family: u64, b: u64, n: u64, x: u64) -> u64
+    requires { ⌜ (2 ≤ b) × (b ≤ 256) × (x ≡ numerator (imageOf family b) b n) ⌝ }
     ensures { λ r. ⌜ r ≡ numerator (imageOf family b) b (n + 1) ⌝ }
 {
-    let mut w = d / b;
+    let mut w = numbers::first_weight(b);
     let mut rest = n;
     let mut y = x;
     while 0 < w {

@@ -1,7 +1,7 @@
 -- Each answer of each call, from the tests that lead to it; and what putting a plan's point leaves. Assumes nothing.
 use mathlib.Core.Path.{_≡_, refl, sym, ap, _∙_}
 use mathlib.Core.List.{List, _++_}
-use Prim.Native.Nat.{ℕ, _*_}
+use Prim.Native.Nat.{ℕ, _+_, _*_}
 use native.Mathlib.Omega.{arith}
 use lib.ListN.{length, take, drop, replicate}
 use Rattle.numbers.proofs.ListedLaws.{padded-take}
@@ -16,7 +16,7 @@ use Rattle.points.specs.Point.{axisCount, pointOf}
 use Rattle.points.specs.Arrays.{directionsArray, ofAxis, pointAt}
 use Rattle.points.proofs.WordLaws.{point-at-all}
 use Rattle.points.proofs.PointLaws.{point-of-length}
-use Rattle.state.proofs.StateLaws.{Holds, holds-arrays, holds-point, accepted-holds}
+use Rattle.state.proofs.StateLaws.{Holds, holds-point, accepted-holds}
 use Rattle.plan.specs.Order.{firstDue}
 use Rattle.plan.proofs.OrderLaws.{unless-none, unless-turned}
 use Rattle.big_endian.specs.Bytes.{wordBytes}
@@ -37,10 +37,10 @@ accepted-axes {a} h = accepted-holds h (directionsArray (planAnswered a)) refl .
 -- ---- the point of a plan's arrays, at the front of a buffer
 
 pub point-put : {p : Plan} {family axes : ℕ} {bases vs : List ℕ} → Holds p family axes bases vs → Valid p → (n : ℕ) (old new x : List ℕ)
-    → x ≡ pointAt family axes bases vs (ofAxis (replicate 6 n)) → new ≡ overwrite old 0 (wordBytes (take axes x)) → new ≡ wordBytes (pointOf p n) ++ drop (8 * axes) old
+    → x ≡ pointAt family axes bases vs (λ i. ofAxis (replicate 6 0) i + n) → new ≡ overwrite old 0 (wordBytes (take axes x)) → new ≡ wordBytes (pointOf p n) ++ drop (8 * axes) old
 point-put {p} {axes = axes} h v n old new x e put =
     let long : length (pointOf p n) ≡ axes = point-of-length p n ∙ sym (h .axes-is) in
-    let front : take axes x ≡ pointOf p n = ap (take axes) (e ∙ point-at-all _ _ _ _ (holds-arrays h v .few) n ∙ holds-point h v n) ∙ padded-take 6 (pointOf p n) axes long in
+    let front : take axes x ≡ pointOf p n = ap (take axes) (e ∙ point-at-all _ _ _ _ n ∙ holds-point h v n) ∙ padded-take 6 (pointOf p n) axes long in
     put ∙ rw front (over-start old (wordBytes (pointOf p n)) (8 * axes) (omega (arith, length-words (pointOf p n), long)))
 
 -- ---- the C point

@@ -19,8 +19,8 @@ fn put_point(out: &mut [u8], a: PlanRead, n: u64)
     let axes = a.axes;
     let bases = a.bases;
     let directions = state::plan_directions(a);
-    let ns = [n; 6];
-    let x = points::point(a.family, axes, &bases, &directions, &ns);
+    let zeros = [0u64; 6];
+    let x = points::point(a.family, axes, &bases, &directions, &zeros, n);
     big_endian::put_words(out, &x[..axes]);
 }
 

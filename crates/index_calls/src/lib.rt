@@ -38,8 +38,8 @@ pub fn jump(s: Sampler, n: u64, out: &mut [u64]) -> Jumped
             code: refusal::BUFFER_TOO_SMALL,
         };
     }
-    let ns = [n; 6];
-    let x = points::point(s.family, axes, &s.bases, &s.directions, &ns);
+    let zeros = [0u64; 6];
+    let x = points::point(s.family, axes, &s.bases, &s.directions, &zeros, n);
     bits::store(out, 0, &x[..axes]);
     Jumped { code: 0 }
 }

@@ -1,9 +1,10 @@
 -- The depth of a base is the least k with b ^ k at or above 2 ^ 32, and the denominator is that power. Assumes nothing.
 use mathlib.Core.Path.{_≡_, refl, sym, ap, _∙_}
 use mathlib.Core.Logic.{⊎-elim}
-use Prim.Native.Nat.{ℕ, _+_, _-_, _*_, _^_, _<_, _≤_}
-use native.Mathlib.Nat.{le-antisymm, le-of-eq, le-trans, pow-zero, mul-le-mul, mul-le-mul-left}
+use Prim.Native.Nat.{ℕ, _+_, _-_, _*_, _/_, _^_, _<_, _≤_}
+use native.Mathlib.Nat.{le-antisymm, le-of-eq, le-trans, pow-zero, one-mul, mul-div-cancel, mul-le-mul, mul-le-mul-left}
 use native.Mathlib.Omega.{arith}
+use lib.Pow.{pow-add}
 use Rattle.numbers.specs.Digits.{digitCount, digitCountIn}
 use Rattle.numbers.specs.Depth.{depth, denominator}
 use Rattle.numbers.proofs.Cases.{lt-or-ge}
@@ -49,6 +50,11 @@ unfolding denominator
 denominator-split b l =
     ap (λ (k : ℕ). b ^ k) {x = depth b} {y = depth b - 1 + 1} (omega (arith, depth-pos b l)) ∙ pow-one-more b (depth b - 1)
 
+-- the first weight times the base
+pub weight-times : (b : ℕ) → 2 ≤ b → denominator b / b * b ≡ denominator b
+weight-times b l =
+    ap (λ (d : ℕ). d / b * b) (denominator-split b l) ∙ ap (λ (w : ℕ). w * b) (mul-div-cancel (b ^ (depth b - 1)) (omega arith)) ∙ sym (denominator-split b l)
+
 -- so that its product with a cut's number below 2 ^ 24 fits a word
 pub denominator-lt : (b : ℕ) → 2 ≤ b → b ≤ 256 → denominator b < 2 ^ 40
 denominator-lt b l u =
@@ -64,6 +70,10 @@ pub record Rising (b k p : ℕ) : Type 0 where
 
 pub rising-none : (b : ℕ) → Rising b 0 1
 rising-none b = record { within = omega arith; is = sym (pow-zero b) }
+
+-- a power below 2 ^ 32 is on the way
+pub rising-of : {b k p : ℕ} → 2 ≤ b → p ≡ b ^ k → p < 2 ^ 32 → Rising b k p
+rising-of {b} {k} l e h = record { within = depth-within b k l (omega (arith, e)); is = e }
 
 module _ {b k p : ℕ} (a : Rising b k p) (l : 2 ≤ b) where
   pub rising-more : p < 2 ^ 32 → Rising b (k + 1) (p * b)
@@ -83,9 +93,39 @@ module _ {b k p : ℕ} (a : Rising b k p) (l : 2 ≤ b) where
   unfolding denominator
   rising-whole h = a .is ∙ ap (λ (j : ℕ). b ^ j) (rising-depth h)
 
+-- the last below 2 ^ 32 is the first weight
+pub rising-last : {b k p : ℕ} → Rising b k p → 2 ≤ b → p < 2 ^ 32 → 2 ^ 32 ≤ p * b → p ≡ denominator b / b
+rising-last {b} {k} {p} a l h up = sym (mul-div-cancel p (omega arith)) ∙ ap (λ (d : ℕ). d / b) (rising-whole (rising-more a l h) l up)
+
 -- one more factor: the product fits a word, and the way to 2 ^ 32 is shorter
 pub rising-fits : {b p : ℕ} → b ≤ 256 → p < 2 ^ 32 → p * b < 2 ^ 40
 rising-fits {b} {p} u h = omega (arith, mul-le-mul {n₁ = p} {m₁ = b} {n₂ = 2 ^ 32 - 1} {m₂ = 256} (omega arith) u)
 
 pub rising-nears : {b p : ℕ} → 2 ≤ b → 0 < p → p < 2 ^ 32 → 2 ^ 32 - p * b < 2 ^ 32 - p
 rising-nears {b} {p} l pos h = omega (arith, mul-le-mul-left {m = 2} {n = b} p l)
+
+-- four more factors: their product fits a word, and so does that of any power below 2 ^ 32 by it
+pub fourth-fits : {b : ℕ} → b ≤ 256 → (b * b ≤ 2 ^ 16) × (b * b * b ≤ 2 ^ 24) × (b * b * b * b ≤ 2 ^ 32)
+fourth-fits {b} u = (two, three, mul-le-mul three u)
+  where
+    two : b * b ≤ 2 ^ 16
+    two = mul-le-mul u u
+
+    three : b * b * b ≤ 2 ^ 24
+    three = mul-le-mul two u
+
+pub fourth-product : {b p : ℕ} → b ≤ 256 → p < 2 ^ 32 → p * (b * b * b * b) < 2 ^ 64
+fourth-product {b} {p} u h =
+    omega (arith, mul-le-mul {n₁ = p} {m₁ = b * b * b * b} {n₂ = 2 ^ 32 - 1} {m₂ = 2 ^ 32} (omega arith) (fourth-fits u .2))
+
+pub fourth-grows : {b : ℕ} → 2 ≤ b → 16 ≤ b * b * b * b
+fourth-grows l = mul-le-mul (mul-le-mul (mul-le-mul l l) l) l
+
+pub fourth-more : (b k : ℕ) {p : ℕ} → p ≡ b ^ k → p * (b * b * b * b) ≡ b ^ (k + 4)
+fourth-more b k e = ap (λ (x : ℕ). x * (b * b * b * b)) e ∙ sym (pow-add b k 4 ∙ ap (λ (x : ℕ). b ^ k * x) four)
+  where
+    one : b ^ 1 ≡ b
+    one = pow-one-more b 0 ∙ ap (λ (x : ℕ). x * b) (pow-zero b) ∙ one-mul b
+
+    four : b ^ 4 ≡ b * b * b * b
+    four = pow-one-more b 3 ∙ ap (λ (x : ℕ). x * b) (pow-one-more b 2 ∙ ap (λ (x : ℕ). x * b) (pow-one-more b 1 ∙ ap (λ (x : ℕ). x * b) one))

@@ -1,6 +1,6 @@
 // Number theory that every axis rests on: Euclid's rule, digits, powers, the denominator of a base.
 ghost use mathlib.Core.Path.{_≡_};
-ghost use Prim.Native.Nat.{_^_, _<_, _≤_, _+_, _/_};
+ghost use Prim.Native.Nat.{ℕ, _+_, _/_, _^_, _<_, _≤_};
 ghost use Rattle.numbers.specs.Gcd.{gcd};
 ghost use Rattle.numbers.specs.Digits.{digitCount};
 ghost use Rattle.numbers.specs.Depth.{denominator};
@@ -50,16 +50,38 @@ pub fn power(b: u64, k: u64) -> u64
     p
 }
 
-// The denominator of an axis of base `b`, by multiplications alone: the least power of `b` at or above 2^32.
+// A power of `b` below 2^32, by steps of four factors: four more reach 2^32.
+fn power_below(b: u64) -> u64
+    requires { ⌜ (2 ≤ b) × (b ≤ 256) ⌝ }
+    ensures { λ r. ⌜ ((k : ℕ) × (r ≡ b ^ k)) × (r < 2 ^ 32) ⌝ }
+{
+    let fourth = b * b * b * b;
+    let mut p = 1;
+    while p * fourth < INDEXES {
+        p = p * fourth;
+    }
+    p
+}
+
+// What an index's lowest digit weighs on an axis of base `b`, its denominator over `b`: the greatest power of `b` below 2^32, by multiplications
+// alone.
+pub fn first_weight(b: u64) -> u64
+    requires { ⌜ (2 ≤ b) × (b ≤ 256) ⌝ }
+    ensures { λ r. ⌜ r ≡ denominator b / b ⌝ }
+{
+    let mut w = power_below(b);
+    while w * b < INDEXES {
+        w = w * b;
+    }
+    w
+}
+
+// The denominator of an axis of base `b`: the least power of `b` at or above 2^32.
 pub fn denominator(b: u64) -> u64
     requires { ⌜ (2 ≤ b) × (b ≤ 256) ⌝ }
     ensures { λ r. ⌜ r ≡ denominator b ⌝ }
 {
-    let mut d = 1;
-    while d < INDEXES {
-        d = d * b;
-    }
-    d
+    first_weight(b) * b
 }
 
 // n / b by a product, where `m` is 2^32 / b + 1: the upper half of n × m is the quotient or one more.

@@ -101,6 +101,6 @@ pub fn open(s: Sampler, starts: &[u64], count: u64) -> Moved
     }
     let six = six_starts(starts);
     let next = state::next_point(s.family, s.axes, &s.bases, &s.directions, &six, count, 0);
-    let t = state::with_run(s, six, count, 0, next);
+    let t = state::with_run(s, six, count, next);
     Moved { code: 0, state: t }
 }

@@ -29,7 +29,7 @@ module _ (start count : ℕ) where
   unfolding startInRange
   start-is e = leb-true (start + count) (2 ^ 32) e
 
-  pub is-start : start + count ≤ 2 ^ 32 → startInRange start count ≡ true
+  is-start : start + count ≤ 2 ^ 32 → startInRange start count ≡ true
   unfolding startInRange
   is-start h = le-leb (start + count) (2 ^ 32) h
 
@@ -57,7 +57,7 @@ module _ (r : Run) where
   range-at e i h =
       start-is (getD (r .starts) i 0) (r .count) (each-at (λ k. startInRange (getD (r .starts) k 0) (r .count)) (length (r .starts)) i e h)
 
-  pub range-all : ((i : ℕ) → i < length (r .starts) → startInRange (getD (r .starts) i 0) (r .count) ≡ true) → inRange r ≡ true
+  range-all : ((i : ℕ) → i < length (r .starts) → startInRange (getD (r .starts) i 0) (r .count) ≡ true) → inRange r ≡ true
   unfolding inRange
   range-all h = each-all (λ k. startInRange (getD (r .starts) k 0) (r .count)) (length (r .starts)) h
 
@@ -72,12 +72,12 @@ module _ (starts : List ℕ) where
   unfolding sameStarts
   same-by = refl
 
-  pub same-at : sameStarts starts ≡ true → (i : ℕ) → i < length starts → getD starts i 0 ≡ getD starts 0 0
+  same-at : sameStarts starts ≡ true → (i : ℕ) → i < length starts → getD starts i 0 ≡ getD starts 0 0
   unfolding sameStarts
   same-at e i h =
       eqb-true (getD starts i 0) (getD starts 0 0) (each-at (λ k. eqb (getD starts k 0) (getD starts 0 0)) (length starts) i e h)
 
-  pub same-all : ((i : ℕ) → i < length starts → getD starts i 0 ≡ getD starts 0 0) → sameStarts starts ≡ true
+  same-all : ((i : ℕ) → i < length starts → getD starts i 0 ≡ getD starts 0 0) → sameStarts starts ≡ true
   unfolding sameStarts
   same-all h =
       each-all (λ k. eqb (getD starts k 0) (getD starts 0 0)) (length starts) (λ i l. eq-eqb (getD starts i 0) (getD starts 0 0) (h i l))
@@ -105,10 +105,10 @@ module _ (starts : List ℕ) where
     starts-long e = eqb-true (length starts) axes (and-eq-true-iff (eqb (length starts) axes) (not (eqb family 2) || sameStarts starts) .0 e .0)
 
     -- where all are equal, any family has them
-    pub starts-same : length starts ≡ axes → sameStarts starts ≡ true → hasStarts family axes starts ≡ true
+    starts-same : length starts ≡ axes → sameStarts starts ≡ true → hasStarts family axes starts ≡ true
     starts-same e same = ⊎-elim (λ f. sym (starts-shared e f) ∙ same) (λ f. starts-free e f) (eq-or-ne family 2)
 
-    pub starts-equal : hasStarts family axes starts ≡ true → family ≡ 2 → (i : ℕ) → i < axes → getD starts i 0 ≡ getD starts 0 0
+    starts-equal : hasStarts family axes starts ≡ true → family ≡ 2 → (i : ℕ) → i < axes → getD starts i 0 ≡ getD starts 0 0
     starts-equal e f i h = let long = starts-long e in same-at (starts-shared long f ∙ e) i (omega arith)
 
 -- ---- a run that is opened
@@ -117,7 +117,7 @@ module _ {p : Plan} {r : Run} (o : Opens p r) where
   pub opens-long : length (r .starts) ≡ axisCount p
   opens-long = starts-long (r .starts) (familyOf p) (axisCount p) (o .has-starts)
 
-  pub opens-range : (i : ℕ) → i < axisCount p → getD (r .starts) i 0 + r .count ≤ 2 ^ 32
+  opens-range : (i : ℕ) → i < axisCount p → getD (r .starts) i 0 + r .count ≤ 2 ^ 32
   opens-range i h = range-at r (o .in-range) i (omega (arith, opens-long))
 
   -- each axis reads indexes below 2^32
@@ -142,11 +142,11 @@ module _ {p : Plan} {r : Run} (o : Opens p r) where
 -- ---- the indexes of a step
 
 module _ (r : Run) (t : ℕ) where
-  pub indexes-length : length (indexesAt r t) ≡ length (r .starts)
+  indexes-length : length (indexesAt r t) ≡ length (r .starts)
   unfolding indexesAt
   indexes-length = listed-length (λ i. indexAt r i t) (length (r .starts))
 
-  pub indexes-at : (i : ℕ) → i < length (r .starts) → getD (indexesAt r t) i 0 ≡ indexAt r i t
+  indexes-at : (i : ℕ) → i < length (r .starts) → getD (indexesAt r t) i 0 ≡ indexAt r i t
   unfolding indexesAt
   indexes-at i h = listed-at (λ k. indexAt r k t) (length (r .starts)) i h
 
@@ -188,11 +188,6 @@ module _ {starts : List ℕ} {k : ℕ} (w : Within starts k) where
             omega (arith, w .at i, List·getD-eq-default (indexesAt (runOf starts count) t) 0 {n = i} (omega (arith, indexes-length (runOf starts count) t, w .long)))
 
 -- zeros behind the starts change no index
-pub index-padded : (starts : List ℕ) (count i t : ℕ) → indexAt (runOf (padded 6 starts) count) i t ≡ indexAt (runOf starts count) i t
-unfolding indexAt
-index-padded starts count i t = ap (λ (n : ℕ). n + t) (padded-at 6 starts i)
-
--- from the first index on
 pub from-padded : (r : Run) {starts : List ℕ} → starts ≡ padded 6 (r .starts) → (i t : ℕ) → getD starts i 0 + t ≡ indexAt r i t
 unfolding indexAt
 from-padded r e i t = ap (λ (l : List ℕ). getD l i 0 + t) e ∙ ap (λ (n : ℕ). n + t) (padded-at 6 (r .starts) i)

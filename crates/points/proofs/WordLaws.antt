@@ -1,11 +1,11 @@
 -- Points by arrays: the words of a point one by one. Assumes nothing.
 use mathlib.Core.Path.{_≡_, ap, _∙_}
 use mathlib.Core.List.{List}
-use Prim.Native.Nat.{ℕ, _<_, _≤_}
+use Prim.Native.Nat.{ℕ, _+_, _<_}
 use native.Mathlib.Omega.{arith}
-use lib.ListN.{getD, replicate, getD-replicate}
+use lib.ListN.{getD, replicate}
 use Rattle.numbers.specs.Listed.{listed, padded}
-use Rattle.numbers.proofs.ListedLaws.{listed-at, listed-same, padded-at}
+use Rattle.numbers.proofs.ListedLaws.{listed-at, listed-same, zeros-at, padded-at}
 use Rattle.points.specs.Arrays.{numeratorAt, ofAxis, pointAt}
 
 module _ (family axes : ℕ) (bases vs : List ℕ) where
@@ -22,6 +22,6 @@ module _ (family axes : ℕ) (bases vs : List ℕ) where
       (listed-same (λ i. numeratorAt family bases vs (m i) i) (λ i. numeratorAt family bases vs (n i) i) axes
       (λ i h. ap (λ (k : ℕ). numeratorAt family bases vs k i) (same i h)))
 
-  -- one index for all axes
-  pub point-at-all : axes ≤ 6 → (n : ℕ) → pointAt family axes bases vs (ofAxis (replicate 6 n)) ≡ pointAt family axes bases vs (λ i. n)
-  point-at-all few n = point-at-same (ofAxis (replicate 6 n)) (λ i. n) (λ i h. getD-replicate 6 i n 0 (omega arith))
+  -- one index for all axes, from 0 on
+  pub point-at-all : (n : ℕ) → pointAt family axes bases vs (λ i. ofAxis (replicate 6 0) i + n) ≡ pointAt family axes bases vs (λ i. n)
+  point-at-all n = point-at-same (λ i. ofAxis (replicate 6 0) i + n) (λ i. n) (λ i h. omega (arith, zeros-at 6 i))

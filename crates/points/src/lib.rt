@@ -97,8 +97,7 @@ fn next_numerator(family: u64, bases: &[u64], directions: &[u64], n: u64, i: usi
         let end = start + 32;
         return sobol::step(&directions[start..end], n, x);
     }
-    let b = bases[i];
-    halton::step(family, b, numbers::denominator(b), n, x)
+    halton::step(family, bases[i], n, x)
 }
 
 // The denominator of axis `i`.
@@ -112,43 +111,46 @@ pub fn denominator(family: u64, bases: &[u64], i: usize) -> u64
     numbers::denominator(bases[i])
 }
 
-// The point of an index for each axis, by jumps.
+// The point `t` places after the first index of each axis, by jumps.
 pub fn point<'a>(
     family: u64,
     axes: usize,
     bases: &'a [u64],
     directions: &'a [u64],
-    ns: &[u64],
+    starts: &'a [u64],
+    t: u64,
 ) -> [u64; 6]
-    requires { ⌜ Arrays family axes (now bases) (now directions) × Within (now ns) 1 ⌝ }
-    ensures { λ r. ⌜ r ≡ pointAt family axes (now (bases .entry)) (now (directions .entry)) (ofAxis (now (ns .entry))) ⌝ }
+    requires { ⌜ Arrays family axes (now bases) (now directions) × Within (now starts) (t + 1) ⌝ }
+    ensures { λ r. ⌜ r ≡ pointAt family axes (now (bases .entry)) (now (directions .entry)) (λ i. ofAxis (now (starts .entry)) i + t) ⌝ }
 {
     let mut x = [0u64; 6];
     let mut i = 0;
     while i < axes {
-        let y = numerator(family, bases, directions, ns[i], i);
+        let y = numerator(family, bases, directions, starts[i] + t, i);
         x[i] = y;
         i += 1;
     }
     x
 }
 
-// The point of the next index of each axis, by a step from that of the indexes `ns`, which is `x`.
+// The point `t + 1` places after the first index of each axis, by a step from that of `t` places, which is `x`.
 pub fn advance<'a>(
     family: u64,
     axes: usize,
     bases: &'a [u64],
     directions: &'a [u64],
-    ns: &[u64],
+    starts: &'a [u64],
+    t: u64,
     x: [u64; 6],
 ) -> [u64; 6]
-    requires { ⌜ Arrays family axes (now bases) (now directions) × Within (now ns) 2 × (x ≡ pointAt family axes (now bases) (now directions) (ofAxis (now ns))) ⌝ }
-    ensures { λ r. ⌜ r ≡ pointAt family axes (now (bases .entry)) (now (directions .entry)) (λ i. ofAxis (now (ns .entry)) i + 1) ⌝ }
+    requires { ⌜ Arrays family axes (now bases) (now directions) × Within (now starts) (t + 2)
+        × (x ≡ pointAt family axes (now bases) (now directions) (λ i. ofAxis (now starts) i + t)) ⌝ }
+    ensures { λ r. ⌜ r ≡ pointAt family axes (now (bases .entry)) (now (directions .entry)) (λ i. ofAxis (now (starts .entry)) i + t + 1) ⌝ }
 {
     let mut y = x;
     let mut i = 0;
     while i < axes {
-        let z = next_numerator(family, bases, directions, ns[i], i, y[i]);
+        let z = next_numerator(family, bases, directions, starts[i] + t, i, y[i]);
         y[i] = z;
         i += 1;
     }

@@ -44,7 +44,7 @@ pub fn step(s: Sampler, out: &mut [u64]) -> Moved
         s.taken,
         x,
     );
-    let t = state::with_run(s, s.starts, s.count, s.taken + 1, next);
+    let t = state::moved_on(s, s.taken + 1, next);
     Moved { code: 0, state: t }
 }
 
@@ -113,7 +113,7 @@ pub fn block_rows(s: Sampler, lead: usize, out: &mut [u64]) -> Blocked
         s.count,
         taken,
     );
-    let t = state::with_run(s, s.starts, s.count, taken, next);
+    let t = state::moved_on(s, taken, next);
     Blocked {
         code: 0,
         points: k as u64,

@@ -18,7 +18,7 @@ use Rattle.points.specs.Arrays.{familyOf, basesArray, polynomialsArray, directi
 use Rattle.points.proofs.PointLaws.{axis-count}
 use Rattle.points.proofs.WordLaws.{point-at-same}
 use Rattle.points.proofs.ArrayLaws.{arrays-of, point-at-plan, point-at-step}
-use Rattle.points.proofs.RunLaws.{opens-within, index-padded}
+use Rattle.points.proofs.RunLaws.{opens-within, from-padded}
 use Rattle.state.specs.State.{stateOf, nextPoint, made, blank, planIn, runIn, genuine}
 use Rattle.state.specs.declared.Sampler.{Sampler}
 use Rattle.state.proofs.GenuineLaws.{Genuine, genuine-is}
@@ -51,8 +51,9 @@ module _ {p : Plan} {family axes : ℕ} {bases vs : List ℕ} (h : Holds p famil
   -- the points of a run, by its starts with zeros after them
   module _ (r : Run) {starts : List ℕ} (e : starts ≡ padded 6 (r .starts)) where
     pub holds-step : (t : ℕ) → pointAt family axes bases vs (λ i. indexAt (runOf starts (r .count)) i t) ≡ padded 6 (runPoint p r t)
+    unfolding indexAt
     holds-step t =
-        point-at-same family axes bases vs _ _ (λ i l. ap (λ (x : List ℕ). indexAt (runOf x (r .count)) i t) e ∙ index-padded (r .starts) (r .count) i t)
+        point-at-same family axes bases vs _ _ (λ i l. from-padded r e i t)
         ∙ rw (h .family-is, h .axes-is, h .bases-is, h .directions-is) (point-at-step p v r t)
 
     pub holds-next : (taken : ℕ)

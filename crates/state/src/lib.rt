@@ -10,7 +10,7 @@ ghost use Rattle.plan.specs.Plan.{Valid, sobol};
 ghost use Rattle.plan.specs.Answer.{axesOf, planAnswered, Accepted};
 ghost use Rattle.points.specs.Arrays.{directionsIn, directionsArray, Arrays, Within, pointAt};
 ghost use Rattle.points.specs.Run.{Run, runOf, oneStart, indexAt};
-ghost use Rattle.state.specs.State.{planIn, nextPoint, made, blank, genuine};
+ghost use Rattle.state.specs.State.{planIn, runIn, nextPoint, made, blank, genuine};
 
 // A sampler: its plan, its run, and how many of the run's points are taken. `directions` has 32 words for each Sobol axis; `starts` is the index
 // of the run's first point on each axis; `numerators` is the next point, and 0 where none is left. Entries that are not used are 0.
@@ -91,8 +91,7 @@ pub fn next_point<'a>(
         (pointAt family axes (now (bases .entry)) (now (directions .entry)) (λ i. indexAt (runOf (now (starts .entry)) count) i taken)) (replicate 6 0) ⌝ }
 {
     if taken < count {
-        let ns = points::indexes(starts, taken);
-        return points::point(family, axes, bases, directions, &ns);
+        return points::point(family, axes, bases, directions, starts, taken);
     }
     [0; 6]
 }
@@ -114,8 +113,7 @@ pub fn point_after<'a>(
         (pointAt family axes (now (bases .entry)) (now (directions .entry)) (λ i. indexAt (runOf (now (starts .entry)) count) i (taken + 1))) (replicate 6 0) ⌝ }
 {
     if taken + 1 < count {
-        let ns = points::indexes(starts, taken);
-        return points::advance(family, axes, bases, directions, &ns, x);
+        return points::advance(family, axes, bases, directions, starts, taken, x);
     }
     [0; 6]
 }
@@ -141,15 +139,26 @@ pub fn make(a: PlanRead) -> Sampler
     }
 }
 
-// A genuine state with another run, so many of whose points are taken, and the point that is next then. The starts have zeros after them.
-pub fn with_run(s: Sampler, starts: [u64; 6], count: u64, taken: u64, next: [u64; 6]) -> Sampler
+// A genuine state with another run, none of whose points is taken, and its first point. The starts have zeros after them.
+pub fn with_run(s: Sampler, starts: [u64; 6], count: u64, next: [u64; 6]) -> Sampler
     requires { ⌜ genuine s ≡ true ⌝ }
-    ensures { λ r. ⌜ ((run : Run) → starts ≡ padded 6 (run .starts) → count ≡ run .count → next ≡ nextPoint (planIn s) run taken
-        → r ≡ made (planIn s) run taken) ⌝ }
+    ensures { λ r. ⌜ ((run : Run) → starts ≡ padded 6 (run .starts) → count ≡ run .count → next ≡ nextPoint (planIn s) run 0
+        → r ≡ made (planIn s) run 0) ⌝ }
 {
     let mut t = s;
     t.starts = starts;
     t.count = count;
+    t.taken = 0;
+    t.numerators = next;
+    t
+}
+
+// A genuine state with so many of its run's points taken, and the point that is next then.
+pub fn moved_on(s: Sampler, taken: u64, next: [u64; 6]) -> Sampler
+    requires { ⌜ (genuine s ≡ true) × (next ≡ nextPoint (planIn s) (runIn s) taken) ⌝ }
+    ensures { λ r. ⌜ r ≡ made (planIn s) (runIn s) taken ⌝ }
+{
+    let mut t = s;
     t.taken = taken;
     t.numerators = next;
     t

@@ -10,7 +10,7 @@ use Rattle.numbers.specs.Depth.{depth, denominator}
 use Rattle.numbers.specs.Listed.{Begins}
 use Rattle.numbers.proofs.Cases.{lt-or-ge}
 use Rattle.numbers.proofs.DigitLaws.{pow-one-more, pow-up-to}
-use Rattle.numbers.proofs.DepthLaws.{depth-reaches, depth-pos, denominator-lt}
+use Rattle.numbers.proofs.DepthLaws.{depth-reaches, denominator-lt}
 use Rattle.halton.specs.Axis.{numerator}
 use Rattle.halton.specs.Images.{imageIn, DigitMap}
 use Rattle.halton.proofs.AxisLaws.{numerator-below}
@@ -74,10 +74,6 @@ table-more {g} {b} {size} {t} {new} a s = record {
 -- the table of one part is the table
 pub table-start : {g : ℕ → ℕ} {b size : ℕ} {t : List ℕ} → Table g b size t → Begins g (1 * size) t
 table-start {g} {b} {size} {t} a = subst (λ (x : ℕ). Begins g x t) (sym (one-mul size)) (a .starts)
-
-pub first-weight : (b : ℕ) → 2 ≤ b → denominator b / b * b ≡ denominator b
-first-weight b big =
-    weight-next b big 0 (denominator b) (ap (λ (x : ℕ). denominator b * x) (pow-zero b) ∙ mul-one (denominator b)) (depth-pos b big)
 
 -- the image of a digit at the last place's weight is its point
 pub first-digit : {b : ℕ} {σ : ℕ → ℕ} → DigitMap b σ → 2 ≤ b → (w d : ℕ) → w * b ≡ denominator b → d < b → σ d * w ≡ numerator σ b d

@@ -51,7 +51,7 @@ pub fn table(b: u64, l: &[u8], limit: usize, t: &mut [u64]) -> usize
     requires { ⌜ (2 ≤ b) × (b ≤ 256) × (256 ≤ length (now l)) × DigitMap b (imageIn (now l)) × (256 ≤ length (now t)) × (b ≤ limit) × (limit ≤ 256) ⌝ }
     ensures { λ r. ⌜ (r ≤ 256) × Table (numerator (imageIn (now (l .entry))) b) b r (now (t .exit)) ⌝ }
 {
-    let mut w = numbers::denominator(b) / b;
+    let mut w = numbers::first_weight(b);
     first_points(b, l, w, t);
     let mut size = b as usize;
     while size * (b as usize) <= limit {

@@ -55,7 +55,7 @@ fn halton_agrees(family: u64, b: u64, n: u64, top: u64, bottom: u64) -> bool {
     }
     let before = halton::jump(family, b, &[], n - 1);
     same_fraction(
-        halton::step(family, b, d, n - 1, before.numerator),
+        halton::step(family, b, n - 1, before.numerator),
         d,
         top,
         bottom,

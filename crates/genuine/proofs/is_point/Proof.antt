@@ -1,5 +1,5 @@
 -- The loop's invariant: the words so far are the point's. Assumes nothing.
-use Prim.Native.Nat.{_-_, _≤_}
+use Prim.Native.Nat.{_+_, _-_, _≤_}
 use native.Mathlib.Omega.{arith}
 use Rattle.points.specs.Arrays.{ofAxis}
 use Rattle.points.proofs.ArrayLaws.{axis-at}
@@ -8,10 +8,10 @@ use Rattle.genuine.proofs.is_point.Statement.{statement}
 use Rattle.genuine.proofs.is_point.Tie as tie
 
 abbrev Inv-loop : tie.InvT-loop
-Inv-loop family axes bases directions x ns axis₀ axis = (axis ≤ axes) × PointTo family bases directions x (ofAxis ns) axis
+Inv-loop family axes bases directions x starts t axis₀ axis = (axis ≤ axes) × PointTo family bases directions x (λ i. ofAxis starts i + t) axis
 
 abbrev μ-loop : tie.MeasureT-loop
-μ-loop family axes bases directions x ns axis₀ axis = axes - axis
+μ-loop family axes bases directions x starts t axis₀ axis = axes - axis
 
 loop-holds : tie.Need-loop-holds Inv-loop μ-loop
 loop-holds c = (omega arith, point-none _ _ _ _ _)
@@ -21,6 +21,11 @@ mul-numerator c = omega arith
 
 shared-slice-read-numerator : tie.Need-shared-slice-read-numerator Inv-loop μ-loop
 shared-slice-read-numerator c = let s = c .before .before .before .before .before .before .before in omega (arith, s .pre .0 .few, s .pre .2 .long)
+
+add-numerator : tie.Need-add-numerator Inv-loop μ-loop
+add-numerator c =
+    let s = c .before .before .before .before .before .before .before in
+    omega (arith, s .pre .2 .at (c .before .before .loop .axis))
 
 numerator-requires : tie.Need-numerator-requires Inv-loop μ-loop
 numerator-requires c κs =
@@ -63,6 +68,7 @@ is-point-spec =
     loop-holds
     mul-numerator
     shared-slice-read-numerator
+    add-numerator
     numerator-requires
     mul-if1
     shared-slice-read-if1

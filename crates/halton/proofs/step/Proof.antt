@@ -13,16 +13,16 @@ use Rattle.halton.proofs.step.Statement.{statement}
 use Rattle.halton.proofs.step.Tie as tie
 
 abbrev Inv-loop : tie.InvT-loop
-Inv-loop family b d n x w₀ rest₀ y₀ w rest y = Stepping (imageOf family b) b (numerator (imageOf family b) b (n + 1)) w rest y
+Inv-loop family b n x w₀ rest₀ y₀ w rest y = Stepping (imageOf family b) b (numerator (imageOf family b) b (n + 1)) w rest y
 
 abbrev μ-loop : tie.MeasureT-loop
-μ-loop family b d n x w₀ rest₀ y₀ w rest y = w
+μ-loop family b n x w₀ rest₀ y₀ w rest y = w
 
-div-w : tie.Need-div-w Inv-loop μ-loop
-div-w c = omega arith
+first-weight-requires : tie.Need-first-weight-requires Inv-loop μ-loop
+first-weight-requires c κs = omega arith
 
 loop-holds : tie.Need-loop-holds Inv-loop μ-loop
-loop-holds c = stepping-start _ _ _ (c .pre .2) (c .pre .3)
+loop-holds c = stepping-start _ _ _ (c .first-weight .ensures) (c .before .pre .2)
 
 rem-a : tie.Need-rem-a Inv-loop μ-loop
 rem-a c = omega arith
@@ -31,19 +31,19 @@ sub-if1 : tie.Need-sub-if1 Inv-loop μ-loop
 sub-if1 c = omega arith
 
 -- the digits of the axis are permuted
-permutes : (c : tie.At-loop Inv-loop μ-loop) → Permutes (c .before .args .b) (imageOf (c .before .args .family) (c .before .args .b))
+permutes : (c : tie.At-loop Inv-loop μ-loop) → Permutes (c .before .before .args .b) (imageOf (c .before .before .args .family) (c .before .before .args .b))
 permutes c = image-permutes _ _ (omega arith)
 
 -- y and the answer are below 2^40
 small : (c : tie.At-loop Inv-loop μ-loop) →
-    let a = c .before .args in (c .loop .y < 2 ^ 40) × (numerator (imageOf (a .family) (a .b)) (a .b) (a .n + 1) < 2 ^ 40)
+    let a = c .before .before .args in (c .loop .y < 2 ^ 40) × (numerator (imageOf (a .family) (a .b)) (a .b) (a .n + 1) < 2 ^ 40)
 small c =
     let h = stepping-lt (c .loop .inv) (permutes c) (omega arith) in
-    let d = denominator-lt (c .before .args .b) (omega arith) (omega arith) in
+    let d = denominator-lt (c .before .before .args .b) (omega arith) (omega arith) in
     (omega (arith, h .0, d), omega (arith, h .1, d))
 
 image-requires : tie.Need-image-requires Inv-loop μ-loop
-image-requires c κs = omega (arith, mod-lt (c .before .before .loop .rest) {m = c .before .before .before .args .b} (omega arith))
+image-requires c κs = omega (arith, mod-lt (c .before .before .loop .rest) {m = c .before .before .before .before .args .b} (omega arith))
 
 -- the first digit's share is in y
 share : (c : tie.After-image Inv-loop μ-loop) → c .image .result * c .before .before .before .loop .w ≤ c .before .before .before .loop .y
@@ -64,7 +64,7 @@ image-requires-2 c κs = omega arith
 
 -- no carry: y with the next digit's share for the first digit's
 answer : (c : tie.After-image2 Inv-loop μ-loop) →
-    let a = c .before .before .before .before .before .args in
+    let a = c .before .before .before .before .before .before .args in
     let l = c .before .before .before .before .loop in
     l .y - c .before .image .result * l .w + c .image2 .result * l .w ≡ numerator (imageOf (a .family) (a .b)) (a .b) (a .n + 1)
 answer c =
@@ -81,7 +81,7 @@ returns : tie.Need-returns Inv-loop μ-loop
 returns c = answer c
 
 image-requires-3 : tie.Need-image-requires-3 Inv-loop μ-loop
-image-requires-3 c κs = omega (arith, mod-lt (c .before .before .loop .rest) {m = c .before .before .before .args .b} (omega arith))
+image-requires-3 c κs = omega (arith, mod-lt (c .before .before .loop .rest) {m = c .before .before .before .before .args .b} (omega arith))
 
 share-carried : (c : tie.After-image3 Inv-loop μ-loop) → c .image3 .result * c .before .before .before .loop .w ≤ c .before .before .before .loop .y
 share-carried c =
@@ -93,8 +93,8 @@ mul-y c = omega (arith, share-carried c, small (c .before .before .before) .0)
 sub-y : tie.Need-sub-y Inv-loop μ-loop
 sub-y c = share-carried c
 
-div-w-2 : tie.Need-div-w-2 Inv-loop μ-loop
-div-w-2 c = omega arith
+div-w : tie.Need-div-w Inv-loop μ-loop
+div-w c = omega arith
 
 div-rest : tie.Need-div-rest Inv-loop μ-loop
 div-rest c = omega arith
@@ -116,7 +116,7 @@ step-spec =
     (tie.spec
     Inv-loop
     μ-loop
-    div-w
+    first-weight-requires
     loop-holds
     rem-a
     sub-if1
@@ -131,7 +131,7 @@ step-spec =
     image-requires-3
     mul-y
     sub-y
-    div-w-2
+    div-w
     div-rest
     loop-less
     loop-again

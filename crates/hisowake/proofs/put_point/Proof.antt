@@ -37,7 +37,7 @@ slice-aggregate-point-3 c = search needs
 point-requires : tie.Need-point-requires
 point-requires c κs =
     let s = c .before .before .before .before .before .before in
-    (holds-arrays (held (c .before .before .before)) (s .pre .0 .valid), within-all (s .args .n) 1 (omega arith))
+    (holds-arrays (held (c .before .before .before)) (s .pre .0 .valid), within-all 0 _ (omega arith))
 
 array-share-prefix-x : tie.Need-array-share-prefix-x
 array-share-prefix-x c =

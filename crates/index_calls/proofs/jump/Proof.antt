@@ -50,12 +50,12 @@ slice-aggregate-point c = search needs
 point-requires : tie.Need-point-requires
 point-requires c κs =
     let k = c .before .before .before .before .before .before .before .before in
-    (known-arrays _ (known k), within-all (start (k .before) .args .n) 1 (omega arith))
+    (known-arrays _ (known k), within-all 0 _ (omega arith))
 
 -- the point is that of the index on every axis
 point : (c : tie.After-point) → let a = start (made c .before) .args in
     c .point .result ≡ pointAt (a .t1 .family) (a .t1 .axes) (a .t1 .bases) (a .t1 .directions) (λ i. a .n)
-point c = c .point .ensures ∙ point-at-all _ _ _ _ (axes-few _ (known (made c)) .1) _
+point c = c .point .ensures ∙ point-at-all _ _ _ _ _
 
 -- the words that are stored are the point's, one an axis
 front : (c : tie.After-point) → let a = start (made c .before) .args in length (take (a .t1 .axes) (c .point .result)) ≡ a .t1 .axes

@@ -13,11 +13,11 @@ use Rattle.points.proofs.advance.Statement.{statement}
 use Rattle.points.proofs.advance.Tie as tie
 
 abbrev Inv-loop : tie.InvT-loop
-Inv-loop family axes bases directions ns y₀ i₀ y i =
-    (i ≤ axes) × Over (λ k. numeratorAt family bases directions (getD ns k 0 + 1) k) y₀ y i
+Inv-loop family axes bases directions starts t y₀ i₀ y i =
+    (i ≤ axes) × Over (λ k. numeratorAt family bases directions (getD starts k 0 + t + 1) k) y₀ y i
 
 abbrev μ-loop : tie.MeasureT-loop
-μ-loop family axes bases directions ns y₀ i₀ y i = axes - i
+μ-loop family axes bases directions starts t y₀ i₀ y i = axes - i
 
 loop-holds : tie.Need-loop-holds Inv-loop μ-loop
 loop-holds c = (omega arith, over-none _ _)
@@ -27,6 +27,11 @@ mul-next-numerator c = omega arith
 
 shared-slice-read-next-numerator : tie.Need-shared-slice-read-next-numerator Inv-loop μ-loop
 shared-slice-read-next-numerator c = let s = c .before .before .before .before .before .before in omega (arith, s .pre .0 .few, s .pre .1 .long)
+
+add-next-numerator : tie.Need-add-next-numerator Inv-loop μ-loop
+add-next-numerator c =
+    let s = c .before .before .before .before .before .before in
+    omega (arith, s .pre .1 .at (c .before .before .loop .i))
 
 mul-next-numerator-2 : tie.Need-mul-next-numerator-2 Inv-loop μ-loop
 mul-next-numerator-2 c = omega arith
@@ -41,7 +46,7 @@ next-numerator-requires c κs =
       axis-at (s .pre .0) (l .i) (omega arith),
       omega (arith, s .pre .1 .at (l .i)),
       l .inv .1 .rest (l .i) (omega arith) ∙ ap (λ (x : List ℕ). getD x (l .i) 0) (s .pre .2)
-          ∙ point-at-word (s .args .family) (s .args .axes) (s .args .bases .now) (s .args .directions .now) (ofAxis (s .args .ns .now)) (l .i) (omega arith),
+          ∙ point-at-word (s .args .family) (s .args .axes) (s .args .bases .now) (s .args .directions .now) (λ k. ofAxis (s .args .starts .now) k + s .args .t) (l .i) (omega arith),
     )
 
 mul-y : tie.Need-mul-y Inv-loop μ-loop
@@ -70,8 +75,8 @@ returns c =
     let l = c .before .loop in
     let e : l .i ≡ a .axes = omega arith in
     let f = numeratorAt (a .family) (a .bases .now) (a .directions .now) in
-    let here : ℕ → ℕ = λ i. f (ofAxis (a .ns .now) i) i in
-    let next : ℕ → ℕ = λ i. f (ofAxis (a .ns .now) i + 1) i in
+    let here : ℕ → ℕ = λ i. f (ofAxis (a .starts .now) i + a .t) i in
+    let next : ℕ → ℕ = λ i. f (ofAxis (a .starts .now) i + a .t + 1) i in
     over-whole 6 here next (a .axes) (l .y) (s .pre .0 .few)
     (subst (λ (x : List ℕ). Over next x (l .y) (a .axes)) (s .pre .2) (subst (Over next (a .x) (l .y)) e (l .inv .1)))
 
@@ -84,6 +89,7 @@ advance-spec =
     loop-holds
     mul-next-numerator
     shared-slice-read-next-numerator
+    add-next-numerator
     mul-next-numerator-2
     array-read-next-numerator
     next-numerator-requires

@@ -37,31 +37,25 @@ returns c =
     let a = c .before .before .before .before .before .args in
     c .step .ensures ∙ numerator-by-part (a .family) (a .bases .now) (a .directions .now) (a .n + 1) (a .i) (omega arith)
 
-mul-b : tie.Need-mul-b
-mul-b c = search needs
+mul-step-2 : tie.Need-mul-step-2
+mul-step-2 c = search needs
 
-shared-slice-read-b : tie.Need-shared-slice-read-b
-shared-slice-read-b c = search needs
-
-denominator-requires : tie.Need-denominator-requires
-denominator-requires c κs =
-    let s = c .before .before .before .before in
-    (s .pre .0 .base .low (λ e. omega arith), s .pre .0 .base .high (λ e. omega arith))
+shared-slice-read-step : tie.Need-shared-slice-read-step
+shared-slice-read-step c = search needs
 
 step-requires-2 : tie.Need-step-requires-2
 step-requires-2 c κs =
-    let s = c .before .before .before .before .before in
+    let s = c .before .before .before .before in
     let a = s .args in
     let base = s .pre .0 .base in (
       base .low (λ e. omega arith),
       base .high (λ e. omega arith),
-      c .denominator .ensures,
       s .pre .2 ∙ sym (numerator-by-base (a .family) (a .bases .now) (a .directions .now) (a .n) (a .i) (λ e. omega arith)),
     )
 
 returns-2 : tie.Need-returns-2
 returns-2 c =
-    let a = c .before .before .before .before .before .before .args in
+    let a = c .before .before .before .before .before .args in
     c .step2 .ensures ∙ numerator-by-base (a .family) (a .bases .now) (a .directions .now) (a .n + 1) (a .i) (λ e. omega arith)
 
 pub next-numerator-spec : {M : Type 1} → statement M
@@ -76,8 +70,7 @@ next-numerator-spec =
     part-step-end
     step-requires
     returns
-    mul-b
-    shared-slice-read-b
-    denominator-requires
+    mul-step-2
+    shared-slice-read-step
     step-requires-2
     returns-2)

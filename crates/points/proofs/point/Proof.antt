@@ -2,7 +2,7 @@
 -- Assumes nothing.
 use mathlib.Core.Path.{_≡_, refl, ap, _∙_}
 use mathlib.Core.List.{List}
-use Prim.Native.Nat.{ℕ, _-_, _≤_}
+use Prim.Native.Nat.{ℕ, _+_, _-_, _≤_}
 use native.Mathlib.Omega.{arith}
 use lib.ListN.{length, getD, set, length-set}
 use Rattle.numbers.specs.Listed.{listed, padded}
@@ -13,11 +13,11 @@ use Rattle.points.proofs.point.Statement.{statement}
 use Rattle.points.proofs.point.Tie as tie
 
 abbrev Inv-loop : tie.InvT-loop
-Inv-loop family axes bases directions ns x₀ i₀ x i =
-    (i ≤ axes) × (length x ≡ 6) × (x ≡ padded 6 (listed (λ k. numeratorAt family bases directions (getD ns k 0) k) i))
+Inv-loop family axes bases directions starts t x₀ i₀ x i =
+    (i ≤ axes) × (length x ≡ 6) × (x ≡ padded 6 (listed (λ k. numeratorAt family bases directions (getD starts k 0 + t) k) i))
 
 abbrev μ-loop : tie.MeasureT-loop
-μ-loop family axes bases directions ns x₀ i₀ x i = axes - i
+μ-loop family axes bases directions starts t x₀ i₀ x i = axes - i
 
 loop-holds : tie.Need-loop-holds Inv-loop μ-loop
 unfolding listed padded
@@ -28,6 +28,11 @@ mul-numerator c = omega arith
 
 shared-slice-read-numerator : tie.Need-shared-slice-read-numerator Inv-loop μ-loop
 shared-slice-read-numerator c = let s = c .before .before .before .before .before .before in omega (arith, s .pre .0 .few, s .pre .1 .long)
+
+add-numerator : tie.Need-add-numerator Inv-loop μ-loop
+add-numerator c =
+    let s = c .before .before .before .before .before .before in
+    omega (arith, s .pre .1 .at (c .before .before .loop .i))
 
 numerator-requires : tie.Need-numerator-requires Inv-loop μ-loop
 numerator-requires c κs =
@@ -51,7 +56,7 @@ loop-again : tie.Need-loop-again Inv-loop μ-loop
 loop-again c =
     let s = c .before .before .before .before .before .before .before in
     let l = c .before .before .before .loop in
-    let f : ℕ → ℕ = λ k. numeratorAt (s .args .family) (s .args .bases .now) (s .args .directions .now) (getD (s .args .ns .now) k 0) k in (
+    let f : ℕ → ℕ = λ k. numeratorAt (s .args .family) (s .args .bases .now) (s .args .directions .now) (getD (s .args .starts .now) k 0 + s .args .t) k in (
       omega arith,
       length-set (l .x) (l .i) _ ∙ l .inv .1,
       ap (λ (x : List ℕ). set x (l .i) (c .numerator .result)) (l .inv .2) ∙ listed-store 6 f (l .i) (c .numerator .result) (omega (arith, s .pre .0 .few)) (c .numerator .ensures),
@@ -63,7 +68,7 @@ returns c =
     let a = c .before .before .before .before .before .args in
     let l = c .before .loop in
     let e : l .i ≡ a .axes = omega arith in
-    l .inv .2 ∙ ap (λ (m : ℕ). padded 6 (listed (λ k. numeratorAt (a .family) (a .bases .now) (a .directions .now) (getD (a .ns .now) k 0) k) m)) e
+    l .inv .2 ∙ ap (λ (m : ℕ). padded 6 (listed (λ k. numeratorAt (a .family) (a .bases .now) (a .directions .now) (getD (a .starts .now) k 0 + a .t) k) m)) e
 
 pub point-spec : {M : Type 1} → statement M
 point-spec =
@@ -74,6 +79,7 @@ point-spec =
     loop-holds
     mul-numerator
     shared-slice-read-numerator
+    add-numerator
     numerator-requires
     mul-x
     array-write-x

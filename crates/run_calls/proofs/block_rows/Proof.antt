@@ -1,5 +1,5 @@
 -- One case law a return; the points are filled from the run's next index on, and the state is made anew. Assumes nothing.
-use mathlib.Core.Path.{_≡_, refl, sym, ap, _∙_}
+use mathlib.Core.Path.{_≡_, sym, ap, _∙_}
 use mathlib.Core.Bool.{true, false}
 use Prim.Native.Nat.{ℕ, _+_, _*_, _≤_}
 use native.Mathlib.Omega.{arith}
@@ -102,8 +102,10 @@ add-taken c = let p = c .before .before .before .before .before .before .before 
 next-point-requires : tie.Need-next-point-requires
 next-point-requires c κs = let k = known (clear (c .before .before .before .before .before .before .before .before .before .before .before .before .before .before .before .before .before .before .before .before .before)) in (known-arrays _ k, known-run _ k .0)
 
-with-run-requires : tie.Need-with-run-requires
-with-run-requires c κs = known (clear (c .before .before .before .before .before .before .before .before .before .before .before .before .before .before .before .before .before .before .before .before .before .before .before))
+moved-on-requires : tie.Need-moved-on-requires
+moved-on-requires c κs =
+    let s = known (clear (c .before .before .before .before .before .before .before .before .before .before .before .before .before .before .before .before .before .before .before .before .before .before)) in
+    (s, c .next-point .ensures ∙ next-of _ s _ (known-starts _ s) _)
 
 same-length : tie.Need-same-length
 same-length c = search needs
@@ -114,16 +116,14 @@ answer k k′ t t′ e f = λ j. record { code = 0; points = e j; state = f j }
 
 returns-4 : tie.Need-returns-4
 returns-4 c =
-    let p = c .before .before .before .before .before .before .before .before .before .before .before .before .before .before .before .before .before .before .before .before .before .before .before .before in
+    let p = c .before .before .before .before .before .before .before .before .before .before .before .before .before .before .before .before .before .before .before .before .before .before .before in
     let s = known (clear p) in
     let a = start (clear p .before) .args in
     let r = runIn (a .t1) in
     let k = p .block-size .ensures in
-    let starts = known-starts (a .t1) s in
-    let next = c .before .before .next-point .ensures ∙ next-of (a .t1) s r starts (a .t1 .taken + p .block-size .result) in
     let w = rows-done (a .lead) (a .t1) (a .out .now) (run-clear (a .t1) (a .out .now) _ s (omega (arith, p .before .if3 .left)) (omega (arith, p .before .before .if2 .left))) in (
-      answer _ _ _ _ k (c .with-run .ensures r starts refl next ∙ ap (λ (j : ℕ). made (planIn (a .t1)) r (a .t1 .taken + j)) k) ∙ sym w,
-      columns-as (c .before .before .before .before .before .before .before .before .before .before .before .before .fill .ensures) (rowNumerator (a .t1)) (row-numerators (a .t1) s _ (c .before .before .before .before .before .before .before .before .before .before .before .before .before .before .before .before .before .before .before .before .indexes .ensures (a .t1 .count))),
+      answer _ _ _ _ k (c .moved-on .ensures ∙ ap (λ (j : ℕ). made (planIn (a .t1)) r (a .t1 .taken + j)) k) ∙ sym w,
+      columns-as (c .before .before .before .before .before .before .before .before .before .before .before .fill .ensures) (rowNumerator (a .t1)) (row-numerators (a .t1) s _ (c .before .before .before .before .before .before .before .before .before .before .before .before .before .before .before .before .before .before .before .indexes .ensures (a .t1 .count))),
     )
 
 pub block-rows-spec : {M : Type 1} → statement M
@@ -145,6 +145,6 @@ block-rows-spec =
     fill-requires
     add-taken
     next-point-requires
-    with-run-requires
+    moved-on-requires
     same-length
     returns-4)

@@ -1,11 +1,10 @@
 -- One case law a return; what is written is the state's next point, and the state is advanced by a step. Assumes nothing.
-use mathlib.Core.Path.{_≡_, refl, sym, ap, _∙_}
+use mathlib.Core.Path.{_≡_, sym, ap, _∙_}
 use mathlib.Core.Bool.{true, false}
-use Prim.Native.Nat.{_+_}
 use native.Mathlib.Omega.{arith}
 use borrow.Author.Needs.{needs}
 use lib.ListN.{length, take}
-use Rattle.state.specs.State.{runIn, genuine}
+use Rattle.state.specs.State.{genuine}
 use Rattle.calls.specs.Calls.{moved}
 use Rattle.calls.proofs.CaseLaws.{foreign-of, known-of, run-foreign, run-spent, run-no-room, run-clear, step-refused, step-done}
 use Rattle.calls.proofs.PointLaws.{axes-few, step-put, front-long, known-arrays, known-starts, known-run, known-next, known-point, next-of}
@@ -79,25 +78,25 @@ point-after-requires c κs =
     let k = known (clear (c .before .before .before .before .before .before .before .before .before .before .before)) in
     (known-arrays _ k, known-run _ k .0, omega arith, known-next _ k (omega arith))
 
-add-with-run : tie.Need-add-with-run
-add-with-run c = let k = known-run _ (known (clear (c .before .before .before .before .before .before .before .before .before .before .before .before .before))) in omega (arith, k .0 .at 0, k .1)
+add-moved-on : tie.Need-add-moved-on
+add-moved-on c = let k = known-run _ (known (clear (c .before .before .before .before .before .before .before .before .before .before .before .before))) in omega (arith, k .0 .at 0, k .1)
 
-with-run-requires : tie.Need-with-run-requires
-with-run-requires c κs = known (clear (c .before .before .before .before .before .before .before .before .before .before .before .before .before))
+moved-on-requires : tie.Need-moved-on-requires
+moved-on-requires c κs =
+    let k = known (clear (c .before .before .before .before .before .before .before .before .before .before .before .before)) in
+    (k, c .point-after .ensures ∙ next-of _ k _ (known-starts _ k) _)
 
 same-length : tie.Need-same-length
 same-length c = search needs
 
 returns-4 : tie.Need-returns-4
 returns-4 c =
-    let p = c .before .before .before .before .before .before .before .before .before .before .before .before .before .before in
+    let p = c .before .before .before .before .before .before .before .before .before .before .before .before .before in
     let k = known (clear p) in
     let a = start (clear p .before) .args in
-    let r = runIn (a .t1) in
-    let w = step-done (a .t1) (a .out .now) (run-clear (a .t1) (a .out .now) _ k (omega arith) (omega arith)) in
-    let starts = known-starts (a .t1) k in (
-      ap (moved 0) (c .with-run .ensures r starts refl (c .before .before .point-after .ensures ∙ next-of (a .t1) k r starts (a .t1 .taken + 1))) ∙ sym (w .0),
-      step-put (a .t1) k (a .out .now) _ _ (a .t1 .taken) (known-point (a .t1) k (omega arith)) (c .before .before .before .before .before .before .before .before .before .before .before .before .store .ensures) ∙ sym (w .1),
+    let w = step-done (a .t1) (a .out .now) (run-clear (a .t1) (a .out .now) _ k (omega arith) (omega arith)) in (
+      ap (moved 0) (c .moved-on .ensures) ∙ sym (w .0),
+      step-put (a .t1) k (a .out .now) _ _ (a .t1 .taken) (known-point (a .t1) k (omega arith)) (c .before .before .before .before .before .before .before .before .before .before .before .store .ensures) ∙ sym (w .1),
     )
 
 pub step-spec : {M : Type 1} → statement M
@@ -115,7 +114,7 @@ step-spec =
     slice-aggregate-store
     store-requires
     point-after-requires
-    add-with-run
-    with-run-requires
+    add-moved-on
+    moved-on-requires
     same-length
     returns-4)

@@ -8,7 +8,7 @@ returns : tie.Need-returns
 returns c =
     let a = c .args in
     let g = genuine-is (a .s) (c .pre) in
-    λ run e n f. holds-made (genuine-holds g) (a .s .polynomials) (a .starts) (a .count) (a .taken) (a .next) run (genuine-polynomials g) e n f
+    λ run e n f. holds-made (genuine-holds g) (a .s .polynomials) (a .starts) (a .count) 0 (a .next) run (genuine-polynomials g) e n f
 
 pub with-run-spec : {M : Type 1} → statement M
 with-run-spec = tie.close (tie.spec returns)

@@ -4,11 +4,12 @@ use Prim.Native.Nat.{ℕ, _-_, _*_, _/_, _≤_}
 use native.Mathlib.Omega.{arith}
 use lib.ListN.{length}
 use Rattle.numbers.specs.Depth.{denominator}
+use Rattle.numbers.proofs.DepthLaws.{weight-times}
 use Rattle.halton.specs.Axis.{numerator}
 use Rattle.halton.specs.Images.{imageIn}
 use Rattle.columns.specs.Tiles.{Table}
 use Rattle.columns.proofs.TileLaws.{table-pos}
-use Rattle.tables.proofs.TableLaws.{first-weight, table-weight}
+use Rattle.tables.proofs.TableLaws.{table-weight}
 use native.Mathlib.Nat.{mul-le-mul, mul-le-mul-left, mul-assoc, mul-comm}
 use Rattle.tables.proofs.table.Statement.{statement}
 use Rattle.tables.proofs.table.Tie as tie
@@ -19,17 +20,14 @@ Inv-loop b l limit t₀ w₀ size₀ t w size = (size ≤ 256) × (w * size ≡ 
 abbrev μ-loop : tie.MeasureT-loop
 μ-loop b l limit t₀ w₀ size₀ t w size = 257 - size
 
-denominator-requires : tie.Need-denominator-requires Inv-loop μ-loop
-denominator-requires c κs = omega arith
-
-div-w : tie.Need-div-w Inv-loop μ-loop
-div-w c = omega arith
+first-weight-requires : tie.Need-first-weight-requires Inv-loop μ-loop
+first-weight-requires c κs = omega arith
 
 -- the weight of the last place
-last : (c : tie.After-denominator Inv-loop μ-loop) →
+last : (c : tie.After-first-weight Inv-loop μ-loop) →
     let b = c .before .before .before .args .b in
-    c .denominator .result / b * b ≡ denominator b
-last c = rw (c .denominator .ensures) (first-weight (c .before .before .before .args .b) (omega arith))
+    c .first-weight .result * b ≡ denominator b
+last c = rw (c .first-weight .ensures) (weight-times (c .before .before .before .args .b) (omega arith))
 
 first-points-requires : tie.Need-first-points-requires Inv-loop μ-loop
 first-points-requires c κs =
@@ -44,8 +42,8 @@ loop-holds c =
 mul-loop : tie.Need-mul-loop Inv-loop μ-loop
 mul-loop c = omega (arith, mul-le-mul {n₁ = c .loop .size} {m₁ = c .before .before .before .before .before .before .before .before .args .b} {n₂ = 256} {m₂ = 256} (omega arith) (omega arith))
 
-div-w-2 : tie.Need-div-w-2 Inv-loop μ-loop
-div-w-2 c = omega arith
+div-w : tie.Need-div-w Inv-loop μ-loop
+div-w c = omega arith
 
 grow-requires : tie.Need-grow-requires Inv-loop μ-loop
 grow-requires c κs =
@@ -86,12 +84,11 @@ table-spec =
     (tie.spec
     Inv-loop
     μ-loop
-    denominator-requires
-    div-w
+    first-weight-requires
     first-points-requires
     loop-holds
     mul-loop
-    div-w-2
+    div-w
     grow-requires
     mul-size
     loop-less

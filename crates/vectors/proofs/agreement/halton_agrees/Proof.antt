@@ -47,7 +47,7 @@ sub-step c = search needs
 
 step-requires : tie.Need-step-requires
 step-requires c κs =
-    (search needs, search needs, search needs, c .jump2 .ensures ∙ numerator-by-family _ _ (omega arith) _)
+    (search needs, search needs, c .jump2 .ensures ∙ numerator-by-family _ _ (omega arith) _)
 
 same-fraction-requires-2 : tie.Need-same-fraction-requires-2
 same-fraction-requires-2 c κs = search needs
