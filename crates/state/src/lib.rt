@@ -158,8 +158,8 @@ pub fn moved_on(s: Sampler, taken: u64, next: [u64; 6]) -> Sampler
     requires { ⌜ (genuine s ≡ true) × (next ≡ nextPoint (planIn s) (runIn s) taken) ⌝ }
     ensures { λ r. ⌜ r ≡ made (planIn s) (runIn s) taken ⌝ }
 {
-    let mut t = s;
-    t.taken = taken;
-    t.numerators = next;
-    t
+    let mut moved = s;
+    moved.taken = taken;
+    moved.numerators = next;
+    moved
 }
