@@ -1,6 +1,6 @@
 -- The calls in loops: what so many rounds of a call answer and leave. Definitions only.
 use mathlib.Core.Bool.{Bool, cond}
-use mathlib.Core.List.{List, []}
+use mathlib.Core.List.{List}
 use Prim.Native.Nat.{ℕ, zero, suc, _%_, _^_}
 use lib.Bits.{bitXor}
 use lib.Dec.{ltb}
@@ -34,7 +34,7 @@ openedState plan starts count = openSpec (readSpec plan .state) (runOf starts co
 
 -- the day set of a plan
 unfoldable pub madeSet : List ℕ → ℕ → DaySet
-madeSet plan size = makeSpec (openedState plan [] 0) size .set
+madeSet plan size = makeSpec (readSpec plan .state) size .set
 
 -- the index of a round
 abbrev pub indexAt : ℕ → ℕ → ℕ

@@ -3,17 +3,24 @@ use sampler::Counted;
 use sampler::DaySet;
 use sampler::Sampler;
 ghost use mathlib.Core.Path.{_≡_};
-ghost use mathlib.Core.List.{[]};
+ghost use Rattle.calls.specs.Calls.{readSpec};
 ghost use Rattle.window_count.specs.Call.{countSpec};
 ghost use Rattle.day_count.specs.Count.{dayCountSpec};
 ghost use Rattle.bench_calls.specs.Rounds.{openedState, madeSet, blocksOf, dayBlocksOf, jumpsOf, axisJumpsOf, slotBy, slotsOf, stepsOf, countsOf};
 
-// The state of a plan with a run opened. Without starts the opening is refused, and the state is that of the plan as read.
+// The state of a plan, as read.
+fn state_of(plan: &[u8]) -> Sampler
+    ensures { λ r. ⌜ r ≡ readSpec (now (plan .entry)) .state ⌝ }
+{
+    let r = sampler::read(plan);
+    r.state
+}
+
+// The state of a plan with a run opened.
 fn opened(plan: &[u8], starts: &[u64], count: u64) -> Sampler
     ensures { λ r. ⌜ r ≡ openedState (now (plan .entry)) (now (starts .entry)) count ⌝ }
 {
-    let r = sampler::read(plan);
-    let o = sampler::open(r.state, starts, count);
+    let o = sampler::open(state_of(plan), starts, count);
     o.state
 }
 
@@ -21,8 +28,7 @@ fn opened(plan: &[u8], starts: &[u64], count: u64) -> Sampler
 fn made(plan: &[u8], size: u64) -> DaySet
     ensures { λ r. ⌜ r ≡ madeSet (now (plan .entry)) size ⌝ }
 {
-    let s = opened(plan, &[], 0);
-    let m = sampler::make_day_set(s, size);
+    let m = sampler::make_day_set(state_of(plan), size);
     m.set
 }
 
@@ -61,9 +67,9 @@ pub extern "C" fn bench_day_blocks(plan: &[u8], size: u64, rounds: u64, out: &mu
 // Jumps to `rounds` indexes. Answers the last jump's number.
 #[no_mangle]
 pub extern "C" fn bench_jumps(plan: &[u8], first: u64, rounds: u64, out: &mut [u64]) -> u64
-    ensures { λ r. ⌜ (r ≡ jumpsOf (openedState (now (plan .entry)) [] 0) first rounds (now (out .entry)) .answer) × (now (out .exit) ≡ jumpsOf (openedState (now (plan .entry)) [] 0) first rounds (now (out .entry)) .words) ⌝ }
+    ensures { λ r. ⌜ (r ≡ jumpsOf (readSpec (now (plan .entry)) .state) first rounds (now (out .entry)) .answer) × (now (out .exit) ≡ jumpsOf (readSpec (now (plan .entry)) .state) first rounds (now (out .entry)) .words) ⌝ }
 {
-    let s = opened(plan, &[], 0);
+    let s = state_of(plan);
     let mut code = 0;
     let mut i = 0;
     while i < rounds {
@@ -116,9 +122,9 @@ pub extern "C" fn bench_slots(
     slots: u64,
     daily: bool,
 ) -> u64
-    ensures { λ r. ⌜ r ≡ slotsOf daily (openedState (now (plan .entry)) [] 0) axis slots (now (indexes .entry)) ⌝ }
+    ensures { λ r. ⌜ r ≡ slotsOf daily (readSpec (now (plan .entry)) .state) axis slots (now (indexes .entry)) ⌝ }
 {
-    let s = opened(plan, &[], 0);
+    let s = state_of(plan);
     let mut x = 0;
     let mut i = 0;
     while i < indexes.len() {

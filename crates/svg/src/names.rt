@@ -18,12 +18,21 @@ fn number(s: Sampler, i: u64) -> u64 {
     if p == 1 { 0 } else { p }
 }
 
-// The numbers of a plan's axes.
-fn axes(l: Lines, out: &mut [u8], s: Sampler) -> Lines {
+// The start of an axis, from 0, or its number.
+fn of_axis(s: Sampler, starts: bool, i: u64) -> u64 {
+    if !starts {
+        return number(s, i);
+    }
+    let all = s.starts;
+    sixth(all, i)
+}
+
+// The starts of a run's axes, or the numbers of its plan's.
+fn axes(l: Lines, out: &mut [u8], s: Sampler, starts: bool) -> Lines {
     let mut next = l;
     let mut i: usize = 0;
     while i < s.axes {
-        next = put_between(next, out, b" ", number(s, i as u64), b"");
+        next = put_between(next, out, b" ", of_axis(s, starts, i as u64), b"");
         i += 1;
     }
     next
@@ -33,10 +42,10 @@ fn axes(l: Lines, out: &mut [u8], s: Sampler) -> Lines {
 fn plan(l: Lines, out: &mut [u8], s: Sampler) -> Lines {
     let family = s.family;
     match family {
-        0 => axes(put(l, out, b"Halton, bases"), out, s),
-        1 => axes(put(l, out, b"Permuted Halton, bases"), out, s),
-        2 => axes(put(l, out, b"Sobol"), out, s),
-        _ => axes(put(l, out, b"Kocis-Whiten Halton, bases"), out, s),
+        0 => axes(put(l, out, b"Halton, bases"), out, s, false),
+        1 => axes(put(l, out, b"Permuted Halton, bases"), out, s, false),
+        2 => axes(put(l, out, b"Sobol"), out, s, false),
+        _ => axes(put(l, out, b"Kocis-Whiten Halton, bases"), out, s, false),
     }
 }
 
@@ -61,22 +70,10 @@ fn has_one_start(s: Sampler) -> bool {
     true
 }
 
-// The start of each axis.
-fn each_start(l: Lines, out: &mut [u8], s: Sampler) -> Lines {
-    let all = s.starts;
-    let mut next = put(l, out, b"starts");
-    let mut i: usize = 0;
-    while i < s.axes {
-        next = put_between(next, out, b" ", sixth(all, i as u64), b"");
-        i += 1;
-    }
-    next
-}
-
 // The one start of all axes, or the start of each.
 fn starts(l: Lines, out: &mut [u8], s: Sampler) -> Lines {
     if !has_one_start(s) {
-        return each_start(l, out, s);
+        return axes(put(l, out, b"starts"), out, s, true);
     }
     let all = s.starts;
     put_between(l, out, b"start ", all[0], b"")

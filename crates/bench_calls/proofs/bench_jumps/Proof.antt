@@ -16,11 +16,8 @@ Inv-loop plan first rounds out₀ s code₀ i₀ out code i = (i ≤ rounds) × 
 abbrev μ-loop : tie.MeasureT-loop
 μ-loop plan first rounds out₀ s code₀ i₀ out code i = rounds - i
 
-slice-aggregate-opened : tie.Need-slice-aggregate-opened Inv-loop μ-loop
-slice-aggregate-opened c = search needs
-
-opened-requires : tie.Need-opened-requires Inv-loop μ-loop
-opened-requires c κs = search needs
+state-of-requires : tie.Need-state-of-requires Inv-loop μ-loop
+state-of-requires c κs = search needs
 
 loop-holds : tie.Need-loop-holds Inv-loop μ-loop
 unfolding jumpsOf
@@ -40,8 +37,8 @@ unfolding jumpsOf jumpRound
 loop-again c =
     let b = c .before .before in
     let l = b .before .before .before in
-    let s = l .before .opened .result in
-    let a = l .before .before .before .before .before .args in (
+    let s = l .before .state-of .result in
+    let a = l .before .before .before .before .args in (
       omega arith,
       search needs,
       rounds-next (jumpRound (a .first)) (turn 0 s (a .out .now)) (l .loop .i) (turn (l .loop .code) s (l .loop .out)) _ (l .loop .inv .2)
@@ -54,8 +51,8 @@ same-length c = search needs
 returns : tie.Need-returns Inv-loop μ-loop
 returns c =
     let l = c .before in
-    let done : l .loop .i ≡ l .before .before .before .before .before .args .rounds = omega arith in
-    (rw (done, l .before .opened .ensures) at (ap (λ (t : Turn Sampler). t .answer) (l .loop .inv .2)), rw (done, l .before .opened .ensures) at (ap (λ (t : Turn Sampler). t .words) (l .loop .inv .2)))
+    let done : l .loop .i ≡ l .before .before .before .before .args .rounds = omega arith in
+    (rw (done, l .before .state-of .ensures) at (ap (λ (t : Turn Sampler). t .answer) (l .loop .inv .2)), rw (done, l .before .state-of .ensures) at (ap (λ (t : Turn Sampler). t .words) (l .loop .inv .2)))
 
 pub bench-jumps-spec : {M : Type 1} → statement M
 bench-jumps-spec =
@@ -63,8 +60,7 @@ bench-jumps-spec =
     (tie.spec
     Inv-loop
     μ-loop
-    slice-aggregate-opened
-    opened-requires
+    state-of-requires
     loop-holds
     jump-requires
     add-i

@@ -16,11 +16,8 @@ Inv-loop plan indexes axis slots daily s x₀ i₀ x i = (i ≤ length indexes) 
 abbrev μ-loop : tie.MeasureT-loop
 μ-loop plan indexes axis slots daily s x₀ i₀ x i = length indexes - i
 
-slice-aggregate-opened : tie.Need-slice-aggregate-opened Inv-loop μ-loop
-slice-aggregate-opened c = search needs
-
-opened-requires : tie.Need-opened-requires Inv-loop μ-loop
-opened-requires c κs = search needs
+state-of-requires : tie.Need-state-of-requires Inv-loop μ-loop
+state-of-requires c κs = search needs
 
 loop-holds : tie.Need-loop-holds Inv-loop μ-loop
 loop-holds c = (omega arith, rounds-none _ _)
@@ -44,8 +41,8 @@ loop-again : tie.Need-loop-again Inv-loop μ-loop
 unfolding slotRound
 loop-again c =
     let l = c .before .before .before in
-    let s = l .before .opened .result in
-    let a = l .before .before .before .before .before .args in (
+    let s = l .before .state-of .result in
+    let a = l .before .before .before .before .args in (
       omega arith,
       rounds-next (slotRound (a .daily) s (a .axis) (a .slots) (a .indexes .now)) 0 (l .loop .i) (l .loop .x) _ (l .loop .inv .1)
           (ap (bitXor (l .loop .x)) (c .slot-by .ensures)),
@@ -55,9 +52,9 @@ returns : tie.Need-returns Inv-loop μ-loop
 unfolding slotsOf
 returns c =
     let l = c .before in
-    let a = l .before .before .before .before .before .args in
+    let a = l .before .before .before .before .args in
     let done : l .loop .i ≡ length (a .indexes .now) = omega arith in
-    rw (done, l .before .opened .ensures) at (l .loop .inv .1)
+    rw (done, l .before .state-of .ensures) at (l .loop .inv .1)
 
 pub bench-slots-spec : {M : Type 1} → statement M
 bench-slots-spec =
@@ -65,8 +62,7 @@ bench-slots-spec =
     (tie.spec
     Inv-loop
     μ-loop
-    slice-aggregate-opened
-    opened-requires
+    state-of-requires
     loop-holds
     mul-slot-by
     shared-slice-read-slot-by

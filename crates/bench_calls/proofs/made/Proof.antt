@@ -8,11 +8,8 @@ use Rattle.bench_calls.specs.Rounds.{madeSet}
 use Rattle.bench_calls.proofs.made.Statement.{statement}
 use Rattle.bench_calls.proofs.made.Tie as tie
 
-slice-aggregate-opened : tie.Need-slice-aggregate-opened
-slice-aggregate-opened c = search needs
-
-opened-requires : tie.Need-opened-requires
-opened-requires c κs = search needs
+state-of-requires : tie.Need-state-of-requires
+state-of-requires c κs = search needs
 
 make-day-set-requires : tie.Need-make-day-set-requires
 make-day-set-requires c κs = search needs
@@ -21,8 +18,8 @@ returns : tie.Need-returns
 unfolding madeSet
 returns c =
     let m = c .before in
-    let a = m .before .before .before .before .args in
-    ap (λ (m : DayMoved). m .set) (m .make-day-set .ensures) ∙ ap (λ (s : Sampler). makeSpec s (a .size) .set) (m .before .opened .ensures)
+    let a = m .before .before .before .args in
+    ap (λ (m : DayMoved). m .set) (m .make-day-set .ensures) ∙ ap (λ (s : Sampler). makeSpec s (a .size) .set) (m .before .state-of .ensures)
 
 pub made-spec : {M : Type 1} → statement M
-made-spec = tie.close (tie.spec slice-aggregate-opened opened-requires make-day-set-requires returns)
+made-spec = tie.close (tie.spec state-of-requires make-day-set-requires returns)

@@ -2,14 +2,15 @@
 use borrow.Author.Needs.{needs}
 use mathlib.Core.Path.{ap, _∙_}
 use Rattle.points.specs.Run.{runOf}
+use Rattle.state.specs.declared.Sampler.{Sampler}
 use Rattle.calls.specs.Calls.{openSpec}
 use Rattle.calls.specs.declared.Moved.{Moved}
 use Rattle.bench_calls.specs.Rounds.{openedState}
 use Rattle.bench_calls.proofs.opened.Statement.{statement}
 use Rattle.bench_calls.proofs.opened.Tie as tie
 
-read-requires : tie.Need-read-requires
-read-requires c κs = search needs
+state-of-requires : tie.Need-state-of-requires
+state-of-requires c κs = search needs
 
 open-requires : tie.Need-open-requires
 open-requires c κs = search needs
@@ -19,7 +20,7 @@ unfolding openedState
 returns c =
     let o = c .before in
     let a = o .before .before .before .before .args in
-    ap (λ (m : Moved). m .state) (o .«open» .ensures) ∙ ap (λ (m : Moved). openSpec (m .state) (runOf (a .starts .now) (a .count)) .state) (o .before .read .ensures)
+    ap (λ (m : Moved). m .state) (o .«open» .ensures) ∙ ap (λ (s : Sampler). openSpec s (runOf (a .starts .now) (a .count)) .state) (o .before .state-of .ensures)
 
 pub opened-spec : {M : Type 1} → statement M
-opened-spec = tie.close (tie.spec read-requires open-requires returns)
+opened-spec = tie.close (tie.spec state-of-requires open-requires returns)

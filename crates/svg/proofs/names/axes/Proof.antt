@@ -7,10 +7,10 @@ use Rattle.svg.proofs.names.axes.Statement.{statement}
 use Rattle.svg.proofs.names.axes.Tie as tie
 
 abbrev Inv-loop : tie.InvT-loop
-Inv-loop out₀ s next₀ i₀ t6 t7 out next i = length out ≡ length out₀
+Inv-loop out₀ s starts next₀ i₀ t6 t7 out next i = length out ≡ length out₀
 
 abbrev μ-loop : tie.MeasureT-loop
-μ-loop out₀ s next₀ i₀ t6 t7 out next i = s .axes - i
+μ-loop out₀ s starts next₀ i₀ t6 t7 out next i = s .axes - i
 
 loop-holds : tie.Need-loop-holds Inv-loop μ-loop
 loop-holds c = search needs
@@ -18,8 +18,8 @@ loop-holds c = search needs
 slice-aggregate-put-between : tie.Need-slice-aggregate-put-between Inv-loop μ-loop
 slice-aggregate-put-between c = search needs
 
-number-requires : tie.Need-number-requires Inv-loop μ-loop
-number-requires c κs = search needs
+of-axis-requires : tie.Need-of-axis-requires Inv-loop μ-loop
+of-axis-requires c κs = search needs
 
 slice-aggregate-put-between-2 : tie.Need-slice-aggregate-put-between-2 Inv-loop μ-loop
 slice-aggregate-put-between-2 c = search needs
@@ -50,7 +50,7 @@ axes-spec =
     μ-loop
     loop-holds
     slice-aggregate-put-between
-    number-requires
+    of-axis-requires
     slice-aggregate-put-between-2
     put-between-requires
     add-i
