@@ -54,29 +54,24 @@ fn stepped(s: Sampler) -> Sampler {
     r.state
 }
 
-// Writes the first eight calls of both collectors.
-fn say_calls(first: Sampler, neighbour: Sampler) {
-    let mut a = first;
-    let mut b = neighbour;
-    let mut t = 0;
-    while t < 8 {
-        say(b"step ", t);
-        say_call(b": second ", a);
-        say_call(b"; the neighbour: second ", b);
-        io::write_all(STDOUT_FILENO, b"\n");
-        a = stepped(a);
-        b = stepped(b);
-        t += 1;
-    }
+// Writes the next calls of both collectors.
+fn say_step(t: u64, first: Sampler, neighbour: Sampler) {
+    say(b"step ", t);
+    say_call(b": second ", first);
+    say_call(b"; the neighbour: second ", neighbour);
+    io::write_all(STDOUT_FILENO, b"\n");
 }
 
-// At how many steps both collectors wake at the same second.
-fn together(first: Sampler, neighbour: Sampler) -> u64 {
+// At how many steps of their runs both collectors wake at the same second. The first so many steps are written.
+fn together(first: Sampler, neighbour: Sampler, shown: u64) -> u64 {
     let mut a = first;
     let mut b = neighbour;
     let mut met = 0;
     let mut t = 0;
     while t < STEPS {
+        if t < shown {
+            say_step(t, a, b);
+        }
         if second(a) == second(b) {
             met += 1;
         }
@@ -88,9 +83,9 @@ fn together(first: Sampler, neighbour: Sampler) -> u64 {
 }
 
 // Writes at how many steps of their runs both wake at the same second.
-fn say_together(label: &[u8], first: Sampler, neighbour: Sampler) {
+fn say_together(label: &[u8], met: u64) {
     io::write_all(STDOUT_FILENO, label);
-    say(b": at the same second at ", together(first, neighbour));
+    say(b": at the same second at ", met);
     say(b" of ", STEPS);
     io::write_all(STDOUT_FILENO, b" steps\n");
 }
@@ -100,7 +95,8 @@ fn main() {
     let r = sampler::read(&[88, 8, 16, 32]);
     let first = opened(r.state, &[0, 0, 0]);
     let neighbour = opened(r.state, &[STEPS, 0, 0]);
-    say_calls(first, neighbour);
-    say_together(b"one start", first, first);
-    say_together(b"a start of its own on axis 1", first, neighbour);
+    let one = together(first, first, 0);
+    let own = together(first, neighbour, 8);
+    say_together(b"one start", one);
+    say_together(b"a start of its own on axis 1", own);
 }

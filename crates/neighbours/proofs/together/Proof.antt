@@ -7,13 +7,16 @@ use Rattle.neighbours.proofs.together.Statement.{statement}
 use Rattle.neighbours.proofs.together.Tie as tie
 
 abbrev Inv-loop : tie.InvT-loop
-Inv-loop a₀ b₀ met₀ t₀ a b met t = (met ≤ t) × (t ≤ 1000)
+Inv-loop shown a₀ b₀ met₀ t₀ a b met t = (met ≤ t) × (t ≤ 1000)
 
 abbrev μ-loop : tie.MeasureT-loop
-μ-loop a₀ b₀ met₀ t₀ a b met t = 1000 - t
+μ-loop shown a₀ b₀ met₀ t₀ a b met t = 1000 - t
 
 loop-holds : tie.Need-loop-holds Inv-loop μ-loop
 loop-holds c = search needs
+
+say-step-requires : tie.Need-say-step-requires Inv-loop μ-loop
+say-step-requires c κs = search needs
 
 second-requires : tie.Need-second-requires Inv-loop μ-loop
 second-requires c κs = search needs
@@ -37,7 +40,7 @@ loop-less : tie.Need-loop-less Inv-loop μ-loop
 loop-less c = search needs
 
 loop-again : tie.Need-loop-again Inv-loop μ-loop
-loop-again c = ⊎-elim (λ w. omega arith) (λ w. omega arith) (c .before .before .if1 .came)
+loop-again c = ⊎-elim (λ w. omega arith) (λ w. omega arith) (c .before .before .if2 .came)
 
 returns : tie.Need-returns Inv-loop μ-loop
 returns c = search needs
@@ -49,6 +52,7 @@ together-spec =
     Inv-loop
     μ-loop
     loop-holds
+    say-step-requires
     second-requires
     second-requires-2
     add-met
