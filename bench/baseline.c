@@ -199,14 +199,17 @@ void baseline_prepare(const plan_t *p, jumper_t *j) {
     memset(j, 0, sizeof *j);
     j->plan = *p;
     for (int a = 0; p->family != 2 && a < p->axes; a++) {
-        uint64_t d = 1;
-        while (d < 4294967296u) {
-            d *= p->base[a];
-            j->depth[a]++;
-        }
+        j->denominator[a] = 1;
+        while (j->denominator[a] < 4294967296u)
+            j->denominator[a] *= p->base[a];
         baseline_images(p->family, p->base[a], j->image[a]);
         j->reciprocal[a] = UINT64_MAX / p->base[a] + 1;
     }
+}
+
+/* What the digits of an index have made, of which the power p of the base was reached, with the leading zeros. */
+static uint64_t with_zeros(uint64_t x, uint64_t p, uint64_t denominator) {
+    return p < denominator ? x * (denominator / p) : x;
 }
 
 void baseline_jump(const jumper_t *j, uint64_t index, uint64_t *out) {
@@ -216,23 +219,23 @@ void baseline_jump(const jumper_t *j, uint64_t index, uint64_t *out) {
             continue;
         }
         unsigned b = j->plan.base[a];
-        uint64_t x = 0, n = index;
-        for (unsigned i = 0; i < j->depth[a]; i++) {
+        uint64_t x = 0, p = 1;
+        for (uint64_t n = index; n != 0; p *= b) {
             uint64_t q = (uint64_t)((unsigned __int128)n * j->reciprocal[a] >> 64);
             x = x * b + j->image[a][n - q * b];
             n = q;
         }
-        out[a] = x;
+        out[a] = with_zeros(x, p, j->denominator[a]);
     }
 }
 
-uint64_t baseline_axis_jump(int family, unsigned b, uint64_t reciprocal, uint64_t index) {
-    uint64_t x = 0;
-    for (uint64_t n = index, p = 1; p < 4294967296u; p *= b) {
+uint64_t baseline_axis_jump(int family, unsigned b, uint64_t reciprocal, uint64_t denominator, uint64_t index) {
+    uint64_t x = 0, p = 1;
+    for (uint64_t n = index; n != 0; p *= b) {
         uint64_t q = (uint64_t)((unsigned __int128)n * reciprocal >> 64);
         unsigned digit = (unsigned)(n - q * b);
         x = x * b + (family == 1 ? faure_image(b, digit) : family == 3 ? kocis_image(b, digit) : digit);
         n = q;
     }
-    return x;
+    return with_zeros(x, p, denominator);
 }

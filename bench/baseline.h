@@ -30,15 +30,15 @@ uint64_t baseline_count(const plan_t *p, uint64_t start, uint64_t count, const u
 /* The numbers 0, 1, .. into the first words of `count` rows of `width` words: the column that a day set has before those of the plan. */
 void baseline_column(size_t count, size_t width, uint64_t *out);
 
-/* A plan with what a jump wants made beforehand: the images of the digits, and the reciprocal of each base. */
+/* A plan with what a jump wants made beforehand: the images of the digits, the reciprocal of each base and the axis's denominator. */
 typedef struct {
     plan_t plan;
-    unsigned depth[6];
+    uint64_t denominator[6];
     uint64_t reciprocal[6];
     uint8_t image[6][256];
 } jumper_t;
 void baseline_prepare(const plan_t *p, jumper_t *j);
-/* The numerator of an index in base b, by the reciprocal of b, made beforehand; each digit's image by the rule. */
-uint64_t baseline_axis_jump(int family, unsigned b, uint64_t reciprocal, uint64_t index);
+/* The numerator of an index in base b, by the reciprocal of b and the axis's denominator, made beforehand; each digit's image by the rule. */
+uint64_t baseline_axis_jump(int family, unsigned b, uint64_t reciprocal, uint64_t denominator, uint64_t index);
 void baseline_jump(const jumper_t *j, uint64_t index, uint64_t *out);
 #endif

@@ -414,32 +414,45 @@ static void day_counts(const std::vector<Case> &all) {
 }
 
 static void axis_jumps() {
-    printf("\n## A jump on one Halton axis, no state: ns\n\n| axis | ours | C with the reciprocal stored |\n|---|---|---|\n");
+    printf("\n## A jump on one Halton axis, no state: ns\n\n| axis | ours | C with the reciprocal and the denominator stored |\n|---|---|---|\n");
+    const std::vector<uint64_t> indexes = indexes_of(10000);
     for (int family : HALTON_FAMILIES)
         for (unsigned b : {2u, 3u, 13u, 241u, 256u}) {
-            uint64_t ours = 0, plain = 0, reciprocal = UINT64_MAX / b + 1, first = 123456789;
-            row(halton(family, {b}).name,
-                {{"ours", 10000, [&] { ours = bench_axis_jumps((uint64_t)family, b, first, 10000); }},
-                 {"C", 10000, [&] {
-                      plain = 0;
-                      for (uint64_t i = 0; i < 10000; i++)
-                          plain ^= baseline_axis_jump(family, b, reciprocal, first ^ i);
-                  }}});
+            const Case c = halton(family, {b});
+            uint64_t ours = 0, plain = 0, reciprocal = UINT64_MAX / b + 1, d = denominator(c.plan);
+            row(c.name, {{"ours", 10000, [&] { ours = bench_axis_jumps((uint64_t)family, b, indexes.data(), indexes.size()); }},
+                         {"C", 10000, [&] {
+                              plain = 0;
+                              for (uint64_t n : indexes)
+                                  plain ^= baseline_axis_jump(family, b, reciprocal, d, n);
+                          }}});
             check(ours == plain, "a jump in base " + std::to_string(b));
         }
 }
 
-static std::vector<uint64_t> thousand_indexes() {
-    std::vector<uint64_t> indexes(1000);
-    for (uint64_t i = 0; i < 1000; i++)
-        indexes[i] = 123456789 ^ i;
-    return indexes;
+// A jump to the index 1 beside one to the last index, whose digits reach the depth.
+static void short_jumps() {
+    printf("\n## A jump to the index 1 beside one to 4,294,967,295: ns\n\n| base, call | 1 | 4,294,967,295, and how many times as long |\n|---|---|---|\n");
+    const std::vector<uint64_t> one(1000, 1), last(1000, 4294967295);
+    for (unsigned b : {2u, 3u, 13u, 256u}) {
+        const Case c = halton(0, {b});
+        auto pair = [&](const char *call, const std::function<void(const std::vector<uint64_t> &)> &turn) {
+            row(std::to_string(b) + ", " + call, {{"1", 1000, [&] { turn(one); }}, {"last", 1000, [&] { turn(last); }}});
+        };
+        pair("the axis alone", [&](const std::vector<uint64_t> &indexes) { bench_axis_jumps(0, b, indexes.data(), indexes.size()); });
+        pair("a jump on a state", [&](const std::vector<uint64_t> &indexes) { uint64_t out[6]; jumps_of(c, indexes, out); });
+        pair("the C point", [&](const std::vector<uint64_t> &indexes) {
+            uint8_t bytes[48];
+            for (uint64_t n : indexes)
+                hisowake_point(c.bytes.data(), c.bytes.size(), n, bytes, 48);
+        });
+    }
 }
 
 // A slot on the last axis, where the state is tested at each call, beside a jump, which has every axis, and plain C on that axis alone, which tests
 // nothing; and the second of the day beside the slot that it is.
 static void slots(const std::vector<Case> &all) {
-    std::vector<uint64_t> indexes = thousand_indexes();
+    const std::vector<uint64_t> indexes = indexes_of(1000);
     printf("\n## A slot of 250 on the last axis: ns\n\n| plan | ours | a jump; C with tables, reciprocals and the denominator made beforehand, no test of a state; slot of 86,400 on axis 1; second |\n|---|---|---|\n");
     for (const Case &c : all) {
         uint64_t ours = 0, plain = 0, slot = 0, second = 0, out[6];
@@ -451,7 +464,7 @@ static void slots(const std::vector<Case> &all) {
             return bench_slots(c.bytes.data(), c.bytes.size(), indexes.data(), indexes.size(), axis, slots, daily);
         };
         row(c.name, {{"ours", 1000, [&] { ours = asked((uint64_t)c.plan.axes, 250, false); }},
-                     {"jump", 1000, [&] { bench_jumps(c.bytes.data(), c.bytes.size(), 123456789, 1000, out, 6); }},
+                     {"jump", 1000, [&] { jumps_of(c, indexes, out); }},
                      {"C", 1000, [&] {
                           plain = 0;
                           for (uint64_t n : indexes) {
@@ -467,7 +480,7 @@ static void slots(const std::vector<Case> &all) {
 }
 
 static void calls(const std::vector<Case> &all) {
-    std::vector<uint64_t> indexes = thousand_indexes();
+    const std::vector<uint64_t> indexes = indexes_of(1000);
     printf("\n## One call: ns\n\n| plan | jump | second | step | step in place | C point | plain C jump, tables and reciprocals made beforehand | Boost | QuantLib |\n|---|---|---|---|---|---|---|---|---|\n");
     for (const Case &c : all) {
         uint64_t out[6];
@@ -477,7 +490,7 @@ static void calls(const std::vector<Case> &all) {
         const uint8_t *plan = c.bytes.data();
         size_t len = c.bytes.size();
         std::vector<Program> programs = {
-            {"jump", 1000, [&] { bench_jumps(plan, len, 123456789, 1000, out, 6); }},
+            {"jump", 1000, [&] { jumps_of(c, indexes, out); }},
             {"second", 1000, [&] { bench_slots(plan, len, indexes.data(), indexes.size(), 1, 86400, true); }},
             {"step", 1000, [&] { steps_of(c, Starts(123456789), 1000, out, 6); }},
             {"step in place", 1000, [&] { steps_in_place_of(c, Starts(123456789), 1000, out, 6); }},
@@ -538,6 +551,7 @@ int main() {
     random_strips();
     day_counts(all);
     axis_jumps();
+    short_jumps();
     slots(all);
     calls(all);
     permuted_steps();

@@ -13,9 +13,9 @@ extern "C" {
 uint64_t bench_blocks(const uint8_t *plan, size_t plan_len, const uint64_t *starts, size_t starts_len, uint64_t rounds, uint64_t *out,
                       size_t out_len);
 uint64_t bench_day_blocks(const uint8_t *plan, size_t plan_len, uint64_t size, uint64_t rounds, uint64_t *out, size_t out_len);
-uint64_t bench_jumps(const uint8_t *plan, size_t plan_len, uint64_t first, uint64_t rounds, uint64_t *out, size_t out_len);
+uint64_t bench_jumps(const uint8_t *plan, size_t plan_len, const uint64_t *indexes, size_t indexes_len, uint64_t *out, size_t out_len);
 uint64_t bench_slots(const uint8_t *plan, size_t plan_len, const uint64_t *indexes, size_t indexes_len, uint64_t axis, uint64_t slots, bool daily);
-uint64_t bench_axis_jumps(uint64_t family, uint64_t base, uint64_t first, uint64_t rounds);
+uint64_t bench_axis_jumps(uint64_t family, uint64_t base, const uint64_t *indexes, size_t indexes_len);
 uint64_t bench_steps(const uint8_t *plan, size_t plan_len, const uint64_t *starts, size_t starts_len, uint64_t rounds, uint64_t *out,
                      size_t out_len);
 uint64_t bench_steps_in_place(const uint8_t *plan, size_t plan_len, const uint64_t *starts, size_t starts_len, uint64_t rounds, uint64_t *out,
@@ -55,6 +55,18 @@ static inline uint64_t steps_in_place_of(const Case &c, const Starts &from, uint
 
 static inline uint64_t counts_of(const Case &c, const Starts &from, uint64_t count, const uint64_t *window, bool by_strips, uint64_t rounds) {
     return bench_counts(c.bytes.data(), c.bytes.size(), from.at, (size_t)c.plan.axes, count, window, 2 * (size_t)c.plan.axes, by_strips, rounds);
+}
+
+// A list of so many indexes around one of 27 binary digits.
+static inline std::vector<uint64_t> indexes_of(uint64_t count) {
+    std::vector<uint64_t> indexes(count);
+    for (uint64_t i = 0; i < count; i++)
+        indexes[i] = 123456789 ^ i;
+    return indexes;
+}
+
+static inline uint64_t jumps_of(const Case &c, const std::vector<uint64_t> &indexes, uint64_t *out) {
+    return bench_jumps(c.bytes.data(), c.bytes.size(), indexes.data(), indexes.size(), out, 6);
 }
 
 static void put_bits(std::vector<uint8_t> &bytes, unsigned &at, unsigned width, unsigned value) {

@@ -19,6 +19,7 @@
 enum { PAGE = 4096 };
 static uint8_t *pages;
 static uint8_t bytes[48];
+static const std::vector<uint64_t> indexes = indexes_of(1000);
 
 // The words that the calls on a state are lent: a page, with one word more in front of it for a list of which the first word is read early.
 static uint64_t *lent() { return (uint64_t *)(pages + PAGE); }
@@ -47,7 +48,7 @@ static void c_count(const Case &c, uint64_t rounds) {
 
 static std::vector<Call> calls() {
     return {
-        {"jump", true, [](const Case &c, uint64_t n) { bench_jumps(c.bytes.data(), c.bytes.size(), 123456789, n, lent(), 6); }},
+        {"jump", true, [](const Case &c, uint64_t n) { bench_jumps(c.bytes.data(), c.bytes.size(), indexes.data(), n, lent(), 6); }},
         {"second", true, [](const Case &c, uint64_t n) { bench_slots(c.bytes.data(), c.bytes.size(), lent() - 1, n, 1, 86400, true); }},
         {"slot of 250 on the last axis", true,
          [](const Case &c, uint64_t n) { bench_slots(c.bytes.data(), c.bytes.size(), lent() - 1, n, (uint64_t)c.plan.axes, 250, false); }},

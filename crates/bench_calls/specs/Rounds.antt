@@ -36,10 +36,6 @@ openedState plan starts count = openSpec (readSpec plan .state) (runOf starts co
 unfoldable pub madeSet : List ℕ → ℕ → DaySet
 madeSet plan size = makeSpec (readSpec plan .state) size .set
 
--- the index of a round
-abbrev pub indexAt : ℕ → ℕ → ℕ
-indexAt first i = bitXor first i % 2 ^ 32
-
 -- ---- a round of each call
 
 unfoldable pub blockRound : ℕ → Turn Sampler → Turn Sampler
@@ -48,15 +44,15 @@ blockRound _ t = turn (blockSpec (t .state) (t .words) .points) (t .state) (bloc
 unfoldable pub dayBlockRound : ℕ → Turn DaySet → Turn DaySet
 dayBlockRound _ t = turn (dayBlockSpec (t .state) (t .words) .points) (t .state) (dayBlockBuf (t .state) (t .words))
 
-unfoldable pub jumpRound : ℕ → ℕ → Turn Sampler → Turn Sampler
-jumpRound first i t =
-    turn (jumpSpec (t .state) (indexAt first i) (t .words) .code) (t .state) (jumpBuf (t .state) (indexAt first i) (t .words))
+unfoldable pub jumpRound : List ℕ → ℕ → Turn Sampler → Turn Sampler
+jumpRound indexes i t =
+    turn (jumpSpec (t .state) (getD indexes i 0) (t .words) .code) (t .state) (jumpBuf (t .state) (getD indexes i 0) (t .words))
 
 unfoldable pub stepRound : ℕ → Turn Sampler → Turn Sampler
 stepRound _ t = turn (stepSpec (t .state) (t .words) .code) (stepSpec (t .state) (t .words) .state) (stepBuf (t .state) (t .words))
 
-unfoldable pub axisRound : ℕ → ℕ → ℕ → ℕ → ℕ → ℕ
-axisRound family b first i x = bitXor x (numerator (imageOf family b) b (indexAt first i))
+unfoldable pub axisRound : ℕ → ℕ → List ℕ → ℕ → ℕ → ℕ
+axisRound family b indexes i x = bitXor x (numerator (imageOf family b) b (getD indexes i 0 % 2 ^ 32))
 
 -- a slot by either call
 unfoldable pub slotBy : Bool → Sampler → ℕ → ℕ → ℕ → ℕ
@@ -73,15 +69,15 @@ blocksOf s n words = rounds blockRound (turn 0 s words) n
 unfoldable pub dayBlocksOf : DaySet → ℕ → List ℕ → Turn DaySet
 dayBlocksOf d n words = rounds dayBlockRound (turn 0 d words) n
 
-unfoldable pub jumpsOf : Sampler → ℕ → ℕ → List ℕ → Turn Sampler
-jumpsOf s first n words = rounds (jumpRound first) (turn 0 s words) n
+unfoldable pub jumpsOf : Sampler → List ℕ → List ℕ → Turn Sampler
+jumpsOf s indexes words = rounds (jumpRound indexes) (turn 0 s words) (length indexes)
 
 unfoldable pub stepsOf : Sampler → ℕ → List ℕ → Turn Sampler
 stepsOf s n words = rounds stepRound (turn 0 s words) n
 
 -- the numerators' exclusive or, or 0 for a base outside 2 to 256
-unfoldable pub axisJumpsOf : ℕ → ℕ → ℕ → ℕ → ℕ
-axisJumpsOf family b first n = cond (ltb b 2) 0 (cond (ltb 256 b) 0 (rounds (axisRound family b first) 0 n))
+unfoldable pub axisJumpsOf : ℕ → ℕ → List ℕ → ℕ
+axisJumpsOf family b indexes = cond (ltb b 2) 0 (cond (ltb 256 b) 0 (rounds (axisRound family b indexes) 0 (length indexes)))
 
 -- the exclusive or of the indexes' slots
 unfoldable pub slotsOf : Bool → Sampler → ℕ → ℕ → List ℕ → ℕ

@@ -64,26 +64,27 @@ pub extern "C" fn bench_day_blocks(plan: &[u8], size: u64, rounds: u64, out: &mu
     points
 }
 
-// Jumps to `rounds` indexes. Answers the last jump's number.
+// Jumps to each index of a list. Answers the last jump's number.
 #[no_mangle]
-pub extern "C" fn bench_jumps(plan: &[u8], first: u64, rounds: u64, out: &mut [u64]) -> u64
-    ensures { λ r. ⌜ (r ≡ jumpsOf (readSpec (now (plan .entry)) .state) first rounds (now (out .entry)) .answer) × (now (out .exit) ≡ jumpsOf (readSpec (now (plan .entry)) .state) first rounds (now (out .entry)) .words) ⌝ }
+pub extern "C" fn bench_jumps(plan: &[u8], indexes: &[u64], out: &mut [u64]) -> u64
+    ensures { λ r. ⌜ (r ≡ jumpsOf (readSpec (now (plan .entry)) .state) (now (indexes .entry)) (now (out .entry)) .answer) × (now (out .exit) ≡ jumpsOf (readSpec (now (plan .entry)) .state) (now (indexes .entry)) (now (out .entry)) .words) ⌝ }
 {
     let s = state_of(plan);
     let mut code = 0;
     let mut i = 0;
-    while i < rounds {
-        let j = sampler::jump(s, (first ^ i) % numbers::INDEXES, out);
+    while i < indexes.len() {
+        let n = indexes[i];
+        let j = sampler::jump(s, n, out);
         code = j.code;
         i += 1;
     }
     code
 }
 
-// Jumps to `rounds` indexes on one Halton axis, with no state and no test. Answers the numerators' exclusive or.
+// Jumps to each index of a list on one Halton axis, with no state and no test. Answers the numerators' exclusive or.
 #[no_mangle]
-pub extern "C" fn bench_axis_jumps(family: u64, b: u64, first: u64, rounds: u64) -> u64
-    ensures { λ r. ⌜ r ≡ axisJumpsOf family b first rounds ⌝ }
+pub extern "C" fn bench_axis_jumps(family: u64, b: u64, indexes: &[u64]) -> u64
+    ensures { λ r. ⌜ r ≡ axisJumpsOf family b (now (indexes .entry)) ⌝ }
 {
     if b < 2 {
         return 0;
@@ -93,8 +94,8 @@ pub extern "C" fn bench_axis_jumps(family: u64, b: u64, first: u64, rounds: u64)
     }
     let mut x = 0;
     let mut i = 0;
-    while i < rounds {
-        let r = halton::jump(family, b, &[], (first ^ i) % numbers::INDEXES);
+    while i < indexes.len() {
+        let r = halton::jump(family, b, &[], indexes[i] % numbers::INDEXES);
         x = x ^ r.numerator;
         i += 1;
     }

@@ -25,9 +25,10 @@ fn digit_image(family: u64, b: u64, images: &[u8], d: u64) -> u64
     images[d as usize] as u64
 }
 
-// The numerator of index `n` in base `b`: the reversing loop, by Horner's rule over the digits of `n`, lowest first, to the depth. `images` is a
-// lent table of the digits' images, or empty. It divides by `b` once: where r × b is below 2^32, r / b is r × (2^32 / b + 1) / 2^32. One place asks
-// for an image, so that the compiler builds the families' images into the loop.
+// The numerator of index `n` in base `b`: the reversing loop, by Horner's rule over the digits of `n`, lowest first, until none is left. The leading
+// zeros stay zeros: they are one factor, the power of `b` that takes `p` to the denominator. `images` is a lent table of the digits' images, or
+// empty. It divides by `b` once: where r × b is below 2^32, r / b is r × (2^32 / b + 1) / 2^32. One place asks for an image, so that the compiler
+// builds the families' images into the loop.
 pub fn jump(family: u64, b: u64, images: &[u8], n: u64) -> Reversed
     requires { ⌜ (2 ≤ b) × (b ≤ 256) × (n < 2 ^ 32) × DigitMap b (imageIn (now images)) ⌝ }
     ensures { λ r. ⌜ r .numerator ≡ numerator (imageBy family b (now (images .entry))) b n ⌝ }
@@ -37,11 +38,14 @@ pub fn jump(family: u64, b: u64, images: &[u8], n: u64) -> Reversed
     let mut rest = n;
     let mut x = 0;
     let mut p = 1;
-    while p < numbers::INDEXES {
+    while rest != 0 {
         x = x * b + digit_image(family, b, images, rest - q * b);
         rest = q;
         q = q * m / 4294967296;
         p = p * b;
+    }
+    if p < numbers::INDEXES {
+        x = x * (numbers::denominator(b) / p);
     }
     Reversed { numerator: x }
 }

@@ -1,5 +1,5 @@
 -- The depth of a base is the least k with b ^ k at or above 2 ^ 32, and the denominator is that power. Assumes nothing.
-use mathlib.Core.Path.{_≡_, refl, sym, ap, _∙_}
+use mathlib.Core.Path.{_≡_, refl, sym, ap, ap₂, _∙_}
 use mathlib.Core.Logic.{⊎-elim}
 use Prim.Native.Nat.{ℕ, _+_, _-_, _*_, _/_, _^_, _<_, _≤_}
 use native.Mathlib.Nat.{le-antisymm, le-of-eq, le-trans, pow-zero, one-mul, mul-div-cancel, mul-le-mul, mul-le-mul-left}
@@ -92,6 +92,13 @@ module _ {b k p : ℕ} (a : Rising b k p) (l : 2 ≤ b) where
   pub rising-whole : 2 ^ 32 ≤ p → p ≡ denominator b
   unfolding denominator
   rising-whole h = a .is ∙ ap (λ (j : ℕ). b ^ j) (rising-depth h)
+
+  -- the power of the digits that are left
+  pub rising-left : denominator b / p ≡ b ^ (depth b - k)
+  unfolding denominator
+  rising-left =
+      ap₂ _/_ (ap (λ (j : ℕ). b ^ j) {x = depth b} {y = depth b - k + k} (omega (arith, a .within)) ∙ pow-add b (depth b - k) k) (a .is)
+      ∙ mul-div-cancel (b ^ (depth b - k)) (pow-pos b k (omega arith))
 
 -- the last below 2 ^ 32 is the first weight
 pub rising-last : {b k p : ℕ} → Rising b k p → 2 ≤ b → p < 2 ^ 32 → 2 ^ 32 ≤ p * b → p ≡ denominator b / b

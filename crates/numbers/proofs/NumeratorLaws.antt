@@ -6,6 +6,7 @@ use native.Mathlib.Nat.{pow-zero, mod-lt, add-zero, div-one, mul-assoc, mul-comm
 use native.Mathlib.Numerals.{suc-eq-add-one}
 use native.Mathlib.Omega.{arith}
 use lib.Arith.{digits-lt, digits-div}
+use lib.Pow.{pow-add}
 use Rattle.numbers.specs.Digits.{digit, sum, term, numeratorTo}
 use Rattle.numbers.proofs.DigitLaws.{pow-one-more, quotient-none, sum-ext, sum-times, sum-one-more}
 
@@ -18,6 +19,14 @@ digit-left b n k =
 digit-none : (b n : ℕ) → digit b n 0 ≡ n % b
 unfolding digit
 digit-none b n = ap (λ (q : ℕ). q % b) (sym (quotient-none b n))
+
+-- past its last digit
+digit-past : (b k n j : ℕ) → n / b ^ k ≡ 0 → digit b n (k + j) ≡ 0
+unfolding digit
+digit-past b k n j e =
+    ap (λ (p : ℕ). n / p % b) (pow-add b k j)
+    ∙ ap (λ (q : ℕ). q % b) (sym (div-div-eq-div-mul n (b ^ k) (b ^ j)) ∙ ap (λ (q : ℕ). q / b ^ j) e ∙ zero-div (b ^ j))
+    ∙ zero-mod b
 
 module _ (σ : ℕ → ℕ) (b : ℕ) where
   -- ---- one digit more
@@ -60,6 +69,13 @@ module _ (σ : ℕ → ℕ) (b : ℕ) where
   numerator-zero z zero = numerator-none 0
   numerator-zero z (suc k) =
       rw (suc-eq-add-one k) (numerator-first k 0 ∙ rw (zero-mod b, zero-div b, z, numerator-zero z k, zero-mul) refl)
+
+  -- an index of at most k digits: each further digit is a leading zero
+  pub numerator-zeros : σ 0 ≡ 0 → (k n j : ℕ) → n / b ^ k ≡ 0 → numeratorTo σ b (k + j) n ≡ numeratorTo σ b k n * b ^ j
+  numerator-zeros z k n zero e = rw (add-zero, pow-zero) (sym (mul-one _))
+  numerator-zeros z k n (suc j) e =
+      rw (suc-eq-add-one j, ← add-assoc k j 1, numerator-last (k + j) n, numerator-zeros z k n j e, digit-past b k n j e, z, pow-one-more b j)
+      (add-zero _ ∙ mul-assoc _ (b ^ j) b)
 
   module _ (below : (d : ℕ) → d < b → σ d < b) (pos : 0 < b) where
     digit-image-below : (n j : ℕ) → σ (digit b n j) < b
