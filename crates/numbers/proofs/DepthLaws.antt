@@ -111,39 +111,37 @@ rising-fits {b} {p} u h = omega (arith, mul-le-mul {n₁ = p} {m₁ = b} {n₂ =
 pub rising-nears : {b p : ℕ} → 2 ≤ b → 0 < p → p < 2 ^ 32 → 2 ^ 32 - p * b < 2 ^ 32 - p
 rising-nears {b} {p} l pos h = omega (arith, mul-le-mul-left {m = 2} {n = b} p l)
 
--- ---- the last power below 2 ^ 32, by squarings
+-- four more factors: their product fits a word, and so does that of any power below 2 ^ 32 by it
+pub fourth-fits : {b : ℕ} → b ≤ 256 → (b * b ≤ 2 ^ 16) × (b * b * b ≤ 2 ^ 24) × (b * b * b * b ≤ 2 ^ 32)
+fourth-fits {b} u = (two, three, mul-le-mul three u)
+  where
+    two : b * b ≤ 2 ^ 16
+    two = mul-le-mul u u
 
--- s is a power of b, or 2 ^ 32
-pub record Factor (b s : ℕ) : Type 0 where
-  pub most : s ≤ 2 ^ 32
-  pub power : s < 2 ^ 32 → (k : ℕ) × (s ≡ b ^ k)
+    three : b * b * b ≤ 2 ^ 24
+    three = mul-le-mul two u
 
-pub factor-base : (b : ℕ) → b ≤ 256 → Factor b b
-factor-base b u = record { most = omega arith; power = λ _. (1, sym (pow-one-more b 0 ∙ ap (λ (x : ℕ). x * b) (pow-zero b) ∙ one-mul b)) }
+pub fourth-product : {b p : ℕ} → b ≤ 256 → p < 2 ^ 32 → p * (b * b * b * b) < 2 ^ 64
+fourth-product {b} {p} u h =
+    omega (arith, mul-le-mul {n₁ = p} {m₁ = b * b * b * b} {n₂ = 2 ^ 32 - 1} {m₂ = 2 ^ 32} (omega arith) (fourth-fits u .2))
 
--- t is the square of s, or 2 ^ 32 where that is less
-abbrev pub Squared : ℕ → ℕ → Type 0
-Squared s t = (s < 2 ^ 16 → t ≡ s * s) × (2 ^ 16 ≤ s → t ≡ 2 ^ 32)
+pub fourth-grows : {b : ℕ} → 2 ≤ b → 16 ≤ b * b * b * b
+fourth-grows l = mul-le-mul (mul-le-mul (mul-le-mul l l) l) l
 
--- r is w times s, or w where the product is not below 2 ^ 32
-abbrev pub Raised : ℕ → ℕ → ℕ → Type 0
-Raised w s r = (w * s < 2 ^ 32 → r ≡ w * s) × (2 ^ 32 ≤ w * s → r ≡ w)
+-- the first, second and fourth power
+pub power-first : (b : ℕ) → b ≡ b ^ 1
+power-first b = sym (pow-one-more b 0 ∙ ap (λ (x : ℕ). x * b) (pow-zero b) ∙ one-mul b)
 
-module _ {s t : ℕ} (a : Squared s t) where
-  pub factor-squared : {b : ℕ} → Factor b s → Factor b t
-  factor-squared {b} f =
-      ⊎-elim
-      (λ l.
-      record {
-        most = omega (arith, a .0 l, mul-le-mul {n₁ = s} {m₁ = s} {n₂ = 2 ^ 16} {m₂ = 2 ^ 16} (omega arith) (omega arith));
-        power = λ _. let p = f .power (omega arith) in (p .0 + p .0, a .0 l ∙ ap₂ _*_ (p .1) (p .1) ∙ sym (pow-add b (p .0) (p .0)));
-      })
-      (λ g. record { most = omega (arith, a .1 g); power = λ l. absurd (omega (arith, a .1 g)) }) (lt-or-ge s (2 ^ 16))
+pub power-second : (b : ℕ) → b * b ≡ b ^ 2
+power-second b = ap (λ (x : ℕ). x * b) (power-first b) ∙ sym (pow-one-more b 1)
 
-  -- and grows as a square does
-  pub squared-grows : {m : ℕ} → m ≤ s → m * m ≤ 2 ^ 32 → m * m ≤ t
-  squared-grows {m} h u =
-      ⊎-elim (λ l. omega (arith, a .0 l, mul-le-mul h h)) (λ g. omega (arith, a .1 g)) (lt-or-ge s (2 ^ 16))
+pub fourth-more : (b k : ℕ) {p : ℕ} → p ≡ b ^ k → p * (b * b * b * b) ≡ b ^ (k + 4)
+fourth-more b k e = ap₂ _*_ e (one-more 3 (one-more 2 (power-second b))) ∙ sym (pow-add b k 4)
+  where
+    one-more : (j : ℕ) {x : ℕ} → x ≡ b ^ j → x * b ≡ b ^ (j + 1)
+    one-more j h = ap (λ (x : ℕ). x * b) h ∙ sym (pow-one-more b j)
+
+-- ---- the last power below 2 ^ 32
 
 -- w is a power of b below 2 ^ 32, and a factor s would reach it
 pub record Near (b s w : ℕ) : Type 0 where
@@ -152,29 +150,20 @@ pub record Near (b s w : ℕ) : Type 0 where
   pub below : w < 2 ^ 32
   pub reaches : 2 ^ 32 ≤ w * s
 
-pub near-none : (b : ℕ) → Near b (2 ^ 32) 1
-near-none b = record { digits = 0; is = sym (pow-zero b); below = omega arith; reaches = omega arith }
+-- by a power of b of which the square would reach 2 ^ 32, where it fits
+pub near-raised : {b s w r : ℕ} (k : ℕ) → s ≡ b ^ k → Near b (s * s) w → (w * s < 2 ^ 32 → r ≡ w * s) × (2 ^ 32 ≤ w * s → r ≡ w) → Near b s r
+near-raised {b} {s} {w} k e a h =
+    ⊎-elim
+    (λ l.
+    rw (h .0 l)
+    (record {
+      digits = a .digits + k;
+      is = ap₂ _*_ (a .is) e ∙ sym (pow-add b (a .digits) k);
+      below = l;
+      reaches = omega (arith, a .reaches, mul-assoc w s s);
+    }))
+    (λ g. rw (h .1 g) (record { digits = a .digits; is = a .is; below = a .below; reaches = g })) (lt-or-ge (w * s) (2 ^ 32))
 
--- by a factor of which the square would reach 2 ^ 32
-pub near-raised : {b s t w r : ℕ} → 2 ≤ b → Near b t w → Squared s t → Factor b s → Raised w s r → Near b s r
-near-raised {b} {s} {t} {w} {r} big a q f e = ⊎-elim more same (lt-or-ge (w * s) (2 ^ 32))
-  where
-    pos : 0 < w
-    pos = omega (arith, a .is, pow-pos b (a .digits) (omega arith))
-
-    same : 2 ^ 32 ≤ w * s → Near b s r
-    same g = rw (e .1 g) (record { digits = a .digits; is = a .is; below = a .below; reaches = g })
-
-    again : 2 ^ 32 ≤ w * s * s
-    again =
-        ⊎-elim (λ l. omega (arith, a .reaches, mul-assoc w s s, ap (λ (x : ℕ). w * x) (q .0 l)))
-        (λ g. omega (arith, mul-assoc w s s, mul-le-mul {n₁ = 1} {m₁ = 2 ^ 16 * 2 ^ 16} {n₂ = w} {m₂ = s * s} pos (mul-le-mul g g))) (lt-or-ge s (2 ^ 16))
-
-    more : w * s < 2 ^ 32 → Near b s r
-    more l =
-        let p = f .power (omega (arith, l, mul-le-mul {n₁ = 1} {m₁ = s} {n₂ = w} {m₂ = s} pos (omega arith))) in
-        rw (e .0 l) (record { digits = a .digits + p .0; is = ap₂ _*_ (a .is) (p .1) ∙ sym (pow-add b (a .digits) (p .0)); below = l; reaches = again })
-
--- where b itself would reach it, that power is the first weight
+-- where b itself would reach it, it is the first weight
 pub near-last : {b w : ℕ} → 2 ≤ b → Near b b w → w ≡ denominator b / b
 near-last l a = rising-last (rising-of l (a .is) (a .below)) l (a .below) (a .reaches)

@@ -1,6 +1,6 @@
 // Number theory that every axis rests on: Euclid's rule, digits, powers, the denominator of a base.
 ghost use mathlib.Core.Path.{_≡_};
-ghost use Prim.Native.Nat.{_+_, _*_, _/_, _^_, _<_, _≤_};
+ghost use Prim.Native.Nat.{ℕ, _+_, _*_, _/_, _^_, _<_, _≤_};
 ghost use Rattle.numbers.specs.Gcd.{gcd};
 ghost use Rattle.numbers.specs.Digits.{digitCount};
 ghost use Rattle.numbers.specs.Depth.{denominator};
@@ -50,36 +50,35 @@ pub fn power(b: u64, k: u64) -> u64
     p
 }
 
-// The square of `s`, or 2^32 where that is less.
-fn square(s: u64) -> u64
-    ensures { λ r. ⌜ (s < 2 ^ 16 → r ≡ s * s) × (2 ^ 16 ≤ s → r ≡ 2 ^ 32) ⌝ }
+// A power of `b` below 2^32, by steps of four factors: four more reach 2^32.
+fn power_below(b: u64) -> u64
+    requires { ⌜ (2 ≤ b) × (b ≤ 256) ⌝ }
+    ensures { λ r. ⌜ ((k : ℕ) × (r ≡ b ^ k)) × (r < 2 ^ 32) × (2 ^ 32 ≤ r * (b * b * b * b)) ⌝ }
 {
-    if s < 65536 { s * s } else { INDEXES }
+    let fourth = b * b * b * b;
+    let mut p = 1;
+    while p * fourth < INDEXES {
+        p = p * fourth;
+    }
+    p
 }
 
 // `w` times `s`, or `w` where the product is not below 2^32.
 fn raised(w: u64, s: u64) -> u64
-    requires { ⌜ (w < 2 ^ 32) × (s ≤ 2 ^ 32) ⌝ }
+    requires { ⌜ (w < 2 ^ 32) × (s ≤ 2 ^ 16) ⌝ }
     ensures { λ r. ⌜ (w * s < 2 ^ 32 → r ≡ w * s) × (2 ^ 32 ≤ w * s → r ≡ w) ⌝ }
 {
     let p = w * s;
     if p < INDEXES { p } else { w }
 }
 
-// What an index's lowest digit weighs on an axis of base `b`, its denominator over `b`: the greatest power of `b` below 2^32. By squarings: each of
-// the sixteenth, eighth, fourth, second and first power is a factor where it fits.
+// What an index's lowest digit weighs on an axis of base `b`, its denominator over `b`: the greatest power of `b` below 2^32, by multiplications
+// alone. Of the last three factors two are taken together. With a second loop here the compiler no longer parts the reversing loop by family.
 pub fn first_weight(b: u64) -> u64
     requires { ⌜ (2 ≤ b) × (b ≤ 256) ⌝ }
     ensures { λ r. ⌜ r ≡ denominator b / b ⌝ }
 {
-    let second = square(b);
-    let fourth = square(second);
-    let eighth = square(fourth);
-    let mut w = raised(1, square(eighth));
-    w = raised(w, eighth);
-    w = raised(w, fourth);
-    w = raised(w, second);
-    raised(w, b)
+    raised(raised(power_below(b), b * b), b)
 }
 
 // The denominator of an axis of base `b`: the least power of `b` at or above 2^32.
