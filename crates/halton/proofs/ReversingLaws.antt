@@ -1,4 +1,4 @@
--- The reversing loop: what it holds after some digits of the index, that one more digit keeps it, and what it has made when nothing of the index is left
+-- The reversing loop: what it holds after some digits of the index, that one more digit keeps it, and what it has made when nothing is left.
 -- Over any map σ of the digits. Assumes nothing.
 use mathlib.Core.Path.{_≡_, sym, ap, ap₂, _∙_}
 use mathlib.Core.Logic.{⊎-elim}
