@@ -1,4 +1,6 @@
 // Writing the axes of a plan into a buffer: the bases of a Halton plan, or the polynomials and m's of a Sobol plan.
+#![tactic(auto)]
+
 ghost use Rattle.std.specs.Prelude.{ℕ, ◌+◌, ◌*◌, ◌<◌, ◌≤◌, length, get_or, take, drop};
 ghost use Rattle.binary.specs.Polynomial.{degree_of};
 ghost use Rattle.plan.specs.Plan.{bases_bits, ms_bits, axis_bits, axes_bits};

@@ -1,4 +1,6 @@
 // The axis that a word spells: `0`, or a polynomial and its m's as P:M,M,.. in decimal.
+#![tactic(auto)]
+
 ghost use Rattle.std.specs.Prelude.{◌≡◌, ◌+◌, ◌*◌, ◌<◌, ◌≤◌, length, drop};
 ghost use Rattle.words.specs.Word.{leading};
 ghost use Rattle.axis_words.specs.Spelled.{is_not, commas_in};
@@ -16,7 +18,7 @@ pub const WRONG_COUNT: u64 = 104;
 pub const NOT_A_NUMBER: u64 = 105;
 
 // Whether a word is a decimal number that fits 64 bits, and the number.
-#[derive(Drop)]
+#[derive(Clone, Copy)]
 pub struct Numeral {
     pub good: bool,
     pub value: u64,
@@ -103,7 +105,7 @@ fn parse_ms(text: &[u8], d: usize, ms: &mut [u64], i: usize) -> usize
 // ---- a word
 
 // Code 0 and the polynomial of an axis; or what is wrong, with the place of an m or the degree, and the number at fault.
-#[derive(Drop)]
+#[derive(Clone, Copy)]
 pub struct AxisSaid {
     pub code: u64,
     pub place: usize,

@@ -1,4 +1,6 @@
 // The calls on a state or a day set in loops, for the benchmark: each function reads its plan once and then makes one call so many times.
+#![tactic(auto)]
+
 ghost use Rattle.std.specs.Prelude.{◌≡◌};
 ghost use Rattle.calls.specs.Calls.{read_spec};
 ghost use Rattle.window_count.specs.Call.{count_spec};

@@ -1,4 +1,6 @@
 // Numbers as bytes, most significant first: words into a buffer, and the numbers of a window out of one.
+#![tactic(auto)]
+
 ghost use Rattle.std.specs.Prelude.{◌≡◌, ◌+◌, ◌*◌, ◌<◌, ◌≤◌, length};
 ghost use Rattle.numbers.specs.Listed.{padded};
 ghost use Rattle.bits.specs.Stream.{overwrite};

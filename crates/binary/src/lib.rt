@@ -1,4 +1,6 @@
 // Arithmetic over two elements: linear combinations of words. The rest is laws.
+#![tactic(auto)]
+
 ghost use Rattle.std.specs.Prelude.{◌≡◌};
 ghost use Rattle.binary.specs.Gf2.{combination};
 

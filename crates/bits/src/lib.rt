@@ -1,4 +1,6 @@
 // Fields of a stream of bits, most significant bit first: out of bytes and back, by shifts and masks. Also a block of words into a list.
+#![tactic(auto)]
+
 ghost use Rattle.std.specs.Prelude.{◌≡◌, ◌+◌, ◌*◌, ◌<◌, ◌≤◌, length, drop, set, ltb};
 ghost use Rattle.bits.specs.Stream.{to_bits, bits_of, bit_at, field_at, overwrite};
 

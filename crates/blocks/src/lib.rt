@@ -1,5 +1,7 @@
 // Many points of a plan held in arrays, in a row: one axis after the other, each into its column of the buffer. A row has `lead` words before
 // its point, which stay as they are.
+#![tactic(auto)]
+
 ghost use Rattle.std.specs.Prelude.{◌≡◌, ◌+◌, ◌*◌, ◌^◌, ◌<◌, ◌≤◌, length};
 ghost use Rattle.columns.specs.Rows.{Column, Columns};
 ghost use Rattle.points.specs.Arrays.{numerator_from, of_axis, numerators_from, AxisAt, Arrays, Within};

@@ -1,4 +1,6 @@
 // Builds plans from lines of words, and prints under each line the plan's bytes in hexadecimal and its words, or what is wrong.
+#![tactic(auto)]
+
 use libc::STDOUT_FILENO;
 
 fn print(text: &[u8]) {

@@ -1,4 +1,6 @@
 // When a C call on a plan that the reader accepted is turned down, and by which number.
+#![tactic(auto)]
+
 ghost use Rattle.std.specs.Prelude.{◌≡◌, ◌≤◌};
 ghost use Rattle.plan.specs.Order.{first_due};
 ghost use Rattle.c_refusals.specs.Refusals.{point_refusals, count_refusals};

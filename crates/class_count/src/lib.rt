@@ -1,6 +1,8 @@
 // How many steps of a run of Halton points are inside a window, by classes of steps: one more digit of an axis splits a class, and the image
 // of the digit against the digits of the window's ends says inside, outside or deeper. The axes are held in a table of images, 256 entries an
 // axis, and in rows of five numbers: the base, the start, and l, u and q of the ends l / q and u / q. The last axis is taken up first.
+#![tactic(auto)]
+
 ghost use Rattle.std.specs.Prelude.{◌≡◌, true, false, ◌+◌, ◌*◌, ◌/◌, ◌%◌, ◌^◌, ◌<◌, ◌≤◌, ltb};
 ghost use Rattle.numbers.specs.Count.{bit, count};
 ghost use Rattle.strips.specs.Ends.{inside_ends};

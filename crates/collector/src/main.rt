@@ -1,4 +1,6 @@
 // A collector's main loop: one sampler, lent once, which each turn steps where it lies; each turn writes a line.
+#![tactic(auto)]
+
 ghost use Rattle.std.specs.Prelude.{◌≡◌};
 ghost use Rattle.collector.specs.Serving.{ended, served, is_over};
 
@@ -41,7 +43,7 @@ fn keep(s: Sampler, point: &mut [u64]) -> Moved
 }
 
 // How a day went: whether it is over, and the state.
-#[derive(Drop)]
+#[derive(Clone, Copy)]
 struct Day {
     over: bool,
     state: Sampler,

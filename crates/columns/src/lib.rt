@@ -1,4 +1,6 @@
 // A buffer of points as rows, an axis a column: definitions and laws. The code here is where a part of the rows ends, and the rows numbered.
+#![tactic(auto)]
+
 ghost use Rattle.std.specs.Prelude.{ℕ, ◌+◌, ◌*◌, ◌^◌, ◌<◌, ◌≤◌, length};
 ghost use Rattle.columns.specs.Rows.{Column};
 ghost use Rattle.columns.specs.Tiles.{Tiled};
@@ -11,7 +13,7 @@ pub fn least(a: usize, b: usize) -> usize
 }
 
 // Where a part of the rows stands in a table, and the row before which it ends.
-#[derive(Drop)]
+#[derive(Clone, Copy)]
 pub struct Tile {
     pub place: usize,
     pub end: usize,

@@ -1,5 +1,7 @@
 // The console's calls, one function each: it makes the call on the console's state, puts the line of its answer, and gives the console with
 // the state that the call leaves. A call's words and bytes are lent by the line.
+#![tactic(auto)]
+
 ghost use Rattle.std.specs.Prelude.{◌≡◌, ◌<◌};
 ghost use Rattle.points.specs.Run.{run_of};
 ghost use Rattle.state.specs.State.{blank};

@@ -1,4 +1,6 @@
 // The console's calls about its day set, one function each, as `console_calls` has them about its state.
+#![tactic(auto)]
+
 ghost use Rattle.std.specs.Prelude.{◌≡◌, ◌<◌};
 ghost use Rattle.day_set.specs.DaySet.{day_of, day_blank};
 ghost use Rattle.day_set.specs.Calls.{make_spec, day_jump_buf, day_step_spec, day_step_buf, day_block_spec, day_block_buf};

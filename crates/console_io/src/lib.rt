@@ -1,5 +1,7 @@
 // The console over standard input and output: each line by its first word, and an answer for each. Each group of lines passes a first word
 // that it does not know on to the next.
+#![tactic(auto)]
+
 ghost use Rattle.std.specs.Prelude.{◌≤◌, length};
 
 use console_lines::{Counting, Held, Lent};

@@ -33,7 +33,7 @@ pub fn day(c: Console, out: &mut [u8], rest: &[u8]) -> Console {
 }
 
 // A count: of the console's run, walked or by strips, or of its day set.
-#[derive(Drop)]
+#[derive(Clone, Copy)]
 pub enum Counting {
     Walked,
     ByStrips,

@@ -3,7 +3,7 @@ use crate::Held;
 use console_text::{Console, Numbers};
 
 // Such a call; a jump with its index.
-#[derive(Drop)]
+#[derive(Clone, Copy)]
 pub enum Lent {
     Jump(u64),
     Step,

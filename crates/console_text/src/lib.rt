@@ -1,4 +1,6 @@
 // What the console's calls share: the console itself, the numbers of a line, what is lent, and the line of an answer or of an error.
+#![tactic(auto)]
+
 mod reading;
 mod report;
 
@@ -15,7 +17,7 @@ use sampler::{DaySet, Sampler};
 pub const MOST_ROOM: u64 = 4224;
 
 // The input and the output, the number of the line at hand, and the state and the day set that the lines so far leave.
-#[derive(Drop)]
+#[derive(Clone, Copy)]
 pub struct Console {
     pub lines: Lines,
     pub line: u64,

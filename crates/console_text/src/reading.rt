@@ -8,7 +8,7 @@ use lines::Lines;
 use words::Number;
 
 // The numbers are read; or the line has another number of words, or the word at a place from 0 is no number or one above 2^64 - 1.
-#[derive(Drop)]
+#[derive(Clone, Copy)]
 pub enum Numbers {
     Read,
     Words(usize),

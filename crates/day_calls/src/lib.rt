@@ -1,4 +1,6 @@
 // The calls that make and serve a day set. Each tests that the run starts at 0 on each axis, and leaves the other tests to its run twin.
+#![tactic(auto)]
+
 ghost use Rattle.std.specs.Prelude.{◌≡◌, ◌+◌, ◌*◌, ◌^◌, ◌<◌, ◌≤◌, length, set};
 ghost use Rattle.columns.specs.Rows.{Column};
 ghost use Rattle.plan.specs.Order.{unless_number};

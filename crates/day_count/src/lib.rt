@@ -1,4 +1,6 @@
 // The window count of a day set: the call.
+#![tactic(auto)]
+
 ghost use Rattle.std.specs.Prelude.{◌≡◌, cond, ◌+◌, ◌^◌, ◌<◌, eqb};
 ghost use Rattle.day_count.specs.Count.{day_count_spec};
 

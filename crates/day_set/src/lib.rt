@@ -1,24 +1,26 @@
 // The day set, a Hammersley set held as a sampler of its own, and what the calls on it answer: structs, definitions and laws.
+#![tactic(auto)]
+
 ghost use Rattle.std.specs.Prelude.{◌≡◌, length};
 ghost use Rattle.day_set.specs.DaySet.{day_blank, from_zero};
 
 use state::Sampler;
 
 // A day set of N points: a sampler whose run has start 0 on each axis and count N.
-#[derive(Drop)]
+#[derive(Clone, Copy)]
 pub struct DaySet {
     pub run: Sampler,
 }
 
 // A refusal's number or 0, and the day set that the call leaves.
-#[derive(Drop)]
+#[derive(Clone, Copy)]
 pub struct DayMoved {
     pub code: u64,
     pub set: DaySet,
 }
 
 // A refusal's number or 0, how many points were written, and the day set that the call leaves.
-#[derive(Drop)]
+#[derive(Clone, Copy)]
 pub struct DayBlocked {
     pub code: u64,
     pub points: u64,

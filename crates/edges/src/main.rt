@@ -1,5 +1,7 @@
 // Runs the edges and the traps of 01-scope.md, and some of 02-change-requests.md, through the calls, one line each: what was asked, and the number
 // that came.
+#![tactic(auto)]
+
 use libc::STDOUT_FILENO;
 use sampler::{Counted, DaySet, Sampler};
 

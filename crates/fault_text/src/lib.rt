@@ -1,5 +1,7 @@
 // What is wrong with the words of a plan, as a message of at most 256 bytes. A text that would not fit is cut off. Each `say` gives the
 // place after what it put.
+#![tactic(auto)]
+
 ghost use Rattle.std.specs.Prelude.{◌≡◌, ◌≤◌, length, take};
 
 use plan::refusal;

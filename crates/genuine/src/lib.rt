@@ -1,4 +1,6 @@
 // The test that a state is genuine, over its arrays in place: axis by axis, with no second state and no bytes.
+#![tactic(auto)]
+
 ghost use Rattle.std.specs.Prelude.{◌≡◌, true, ◌↔◌, ◌+◌, ◌<◌, ◌≤◌, length};
 ghost use Rattle.fitting.specs.Fits.{ZeroFrom, CoprimeTo, FitBases, FitHalton, NewTo, FitAxes, FitSobol, FitPlan, FitRun, FitPoint, FitNext, Sized};
 ghost use Rattle.points.specs.Arrays.{of_axis, Arrays, Within};

@@ -1,11 +1,13 @@
 // The Halton axis: the numerator of an index by jump and by step, over the digit images of any family.
+#![tactic(auto)]
+
 ghost use Rattle.std.specs.Prelude.{◌≡◌, ◌+◌, ◌^◌, ◌<◌, ◌≤◌};
 ghost use Rattle.permutation.specs.Families.{image_of};
 ghost use Rattle.halton.specs.Axis.{numerator};
 ghost use Rattle.halton.specs.Images.{image_in, image_by, DigitMap};
 
 // What reversing an index tells.
-#[derive(Drop)]
+#[derive(Clone, Copy)]
 pub struct Reversed {
     pub numerator: u64,
 }

@@ -1,5 +1,7 @@
 // Many points of a Halton axis in a row, written to a column of a buffer, by a table of its first points: every later run of as many is that
 // table and one number.
+#![tactic(auto)]
+
 ghost use Rattle.std.specs.Prelude.{ℕ, ◌+◌, ◌-◌, ◌*◌, ◌^◌, ◌<◌, ◌≤◌, length, get_or};
 ghost use Rattle.columns.specs.Rows.{Column};
 ghost use Rattle.columns.specs.Tiles.{tile_of};

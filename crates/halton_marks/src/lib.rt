@@ -1,5 +1,7 @@
 // Flags for the points of a Halton axis in a row, by a table of its first points. No point is stored: a run of them is below a limit where
 // the table's entries are below what the run's one number leaves of it.
+#![tactic(auto)]
+
 ghost use Rattle.std.specs.Prelude.{◌≡◌, ◌+◌, ◌-◌, ◌^◌, ◌<◌, ◌≤◌, length};
 ghost use Rattle.columns.specs.Tiles.{tile_of};
 ghost use Rattle.tables.specs.Tables.{tabled};

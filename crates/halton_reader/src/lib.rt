@@ -1,4 +1,6 @@
 // Reading the bases of a Halton plan: the fields in their order, and the first refusal that holds.
+#![tactic(auto)]
+
 ghost use Rattle.std.specs.Prelude.{◌≡◌, ◌+◌, ◌*◌, ◌≤◌, length, take, replicate};
 ghost use Rattle.plan.specs.Reading.{shares_factor};
 ghost use Rattle.halton_reader.specs.Bases.{BasesAnswer};
@@ -21,7 +23,7 @@ fn shares_factor(b: u64, bases: &[u64], n: usize) -> bool
 }
 
 // What reading the bases comes to.
-#[derive(Drop)]
+#[derive(Clone, Copy)]
 pub struct BasesRead {
     pub code: u64,
     pub at: usize,

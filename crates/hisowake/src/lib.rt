@@ -1,4 +1,6 @@
 // The calls of the host firmware, which is C: on numbers and byte slices, with no state. A slice is a pointer and a length.
+#![tactic(auto)]
+
 ghost use Rattle.std.specs.Prelude.{◌≡◌, true, ◌++◌, ◌*◌, ◌^◌, ◌<◌, ◌≤◌, length, drop};
 ghost use Rattle.plan.specs.Answer.{plan_answered, Accepted};
 ghost use Rattle.points.specs.Point.{point_of};

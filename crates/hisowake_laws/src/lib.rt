@@ -1,1 +1,2 @@
 // The C calls answer what the sampler's calls answer. Laws alone, no code.
+#![tactic(auto)]

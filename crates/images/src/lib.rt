@@ -1,5 +1,7 @@
 // The images of all digits of a base as a table of bytes. Those of a permutation are made in place from those of half the base, with about two
 // stores a digit in all.
+#![tactic(auto)]
+
 ghost use Rattle.std.specs.Prelude.{◌≡◌, ◌+◌, ◌-◌, ◌/◌, ◌%◌, ◌<◌, ◌≤◌, length};
 ghost use Rattle.numbers.specs.Listed.{Begins};
 ghost use Rattle.permutation.specs.Faure.{open_gap, faure};

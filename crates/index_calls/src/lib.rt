@@ -1,4 +1,6 @@
 // The calls on any index of a plan: its point, its slot on an axis, and its second of the day.
+#![tactic(auto)]
+
 ghost use Rattle.std.specs.Prelude.{◌≡◌, ◌*◌, ◌/◌, ◌^◌, ◌<◌, ◌≤◌};
 ghost use Rattle.calls.specs.Calls.{jump_spec, jump_buf, slotted, has_slots, slot_spec, second_spec};
 

@@ -1,4 +1,6 @@
 // How many points of a plan's run are inside a window, walked axis by axis with a flag a point.
+#![tactic(auto)]
+
 ghost use Rattle.std.specs.Prelude.{◌≡◌, Bool, ℕ, ◌+◌, ◌*◌, ◌^◌, ◌<◌, ◌≤◌, length};
 ghost use Rattle.numbers.specs.Count.{count};
 ghost use Rattle.points.specs.Arrays.{numerator_from, of_axis, AxisAt, Arrays, Within};

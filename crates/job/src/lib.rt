@@ -1,6 +1,8 @@
 // A job text, line by line: what the programs share. A line `plan ..` puts a plan in force, a line `run START .. COUNT` opens a run of it, a line
 // `day N` makes a day set of it in the place of a run, and a line `axes X Y` names two axes to draw; the state that they leave, and the errors,
 // which are lines of the output.
+#![tactic(auto)]
+
 mod axes;
 mod day;
 mod plans;
@@ -21,7 +23,7 @@ use sampler::Sampler;
 // were in error, and whether the error at hand is not shown; whether a plan is in force, whether a run or a day set of it is, and whether that is a
 // day set, the sampler that has them, and the number of the run's or the day set's line; whether axes to draw are given, which two, from 1 or 0 for
 // a day set's leading axis, whether the time of day goes along axis 1, and the number of the line that says so.
-#[derive(Drop)]
+#[derive(Clone, Copy)]
 pub struct Job {
     pub lines: Lines,
     pub is_picture: bool,

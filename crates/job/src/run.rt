@@ -26,7 +26,7 @@ pub fn number_error(j: Job, out: &mut [u8], n: Number, name: &[u8]) -> Job {
 }
 
 // Two numbers that a line has and the place after them, or the job with the error that it has none.
-#[derive(Drop)]
+#[derive(Clone, Copy)]
 pub struct Two {
     pub job: Job,
     pub is_good: bool,
@@ -130,7 +130,7 @@ fn one_start(j: Job, out: &mut [u8], text: &[u8], from: usize, axes: usize) -> J
 }
 
 // The starts that a line has and the place after them, or the job with the error that one is no number.
-#[derive(Drop)]
+#[derive(Clone, Copy)]
 struct Starts {
     job: Job,
     is_good: bool,

@@ -1,5 +1,7 @@
 // Standard input of any length cut into lines, and standard output in large pieces, over buffers that the program lends: a chunk of input, the
 // line at hand, and an output buffer. The output is written out whenever its buffer is full and before the program waits for input.
+#![tactic(auto)]
+
 mod input;
 mod output;
 
@@ -12,7 +14,7 @@ pub use output::{finish, flush, put, put_between, put_hex, put_number};
 // its text has, 1,025 standing for any number above 1,024, whether a comment follows, and whether a newline ends it; whether there was no
 // line left; and whether that is because a read failed.
 // Of the output: how much of its buffer waits to be written, and whether a write failed, so that something is lost.
-#[derive(Drop)]
+#[derive(Clone, Copy)]
 pub struct Lines {
     pub at: usize,
     pub filled: usize,

@@ -1,4 +1,6 @@
 // Flags for a row of numbers, a byte each: definitions and laws. The code here tests one number.
+#![tactic(auto)]
+
 ghost use Rattle.std.specs.Prelude.{◌≡◌, cond, ltb};
 
 // The flag `f` where `x` is below `limit`, else 0.

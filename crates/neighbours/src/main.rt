@@ -2,6 +2,8 @@
 // wake at the same second every time. So the neighbour starts on axis 1 where the first one's run ends: no index of that axis is read by both, and
 // their seconds together are those of one run of 2,000 steps, spread as evenly. Axes 2 and 3 keep their start: each collector has meters of its own,
 // and channels meet only where seconds do.
+#![tactic(auto)]
+
 ghost use Rattle.std.specs.Prelude.{◌<◌};
 
 use libc::STDOUT_FILENO;

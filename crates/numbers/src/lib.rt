@@ -1,4 +1,6 @@
 // Number theory that every axis rests on: Euclid's rule, digits, powers, the denominator of a base.
+#![tactic(auto)]
+
 ghost use Rattle.std.specs.Prelude.{◌≡◌, ℕ, ◌+◌, ◌*◌, ◌/◌, ◌^◌, ◌<◌, ◌≤◌};
 ghost use Rattle.numbers.specs.Gcd.{gcd};
 ghost use Rattle.numbers.specs.Digits.{digit_count};

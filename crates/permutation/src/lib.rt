@@ -1,4 +1,6 @@
 // The permutations of the digits: Faure's, that of Kocis and Whiten, and what each family of plans does to a digit.
+#![tactic(auto)]
+
 ghost use Rattle.std.specs.Prelude.{◌≡◌, ◌-◌, ◌%◌, ◌<◌, ◌≤◌};
 ghost use Rattle.std.specs.Int.Bits.{bit_and};
 ghost use Rattle.permutation.specs.Faure.{faure};

@@ -1,4 +1,6 @@
 // A job text of a plan, a run or a day set, two axes and windows, and the picture of its points on these axes, with the windows as frames.
+#![tactic(auto)]
+
 ghost use Rattle.std.specs.Prelude.{◌≡◌, ◌≤◌, length};
 
 use job::Job;
@@ -6,7 +8,7 @@ use lines::Lines;
 use svg::Drawing;
 
 // What the lines so far ask for, how many windows of the run are kept, and the number of the line of the first that is not, or 0.
-#[derive(Drop)]
+#[derive(Clone, Copy)]
 struct Wanted {
     job: Job,
     windows: usize,

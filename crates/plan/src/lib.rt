@@ -1,9 +1,11 @@
 // What a plan is, when it is valid, and how it is spelled: definitions and laws. The code here is the reader's answer alone.
+#![tactic(auto)]
+
 pub mod refusal;
 
 // A plan as the reader answers it: code 0 and the plan, with 0 in the entries that it does not use; or a refusal's number, and zeros.
 // `ms` has 12 places for each Sobol axis.
-#[derive(Drop)]
+#[derive(Clone, Copy)]
 pub struct PlanRead {
     pub code: u64,
     pub family: u64,

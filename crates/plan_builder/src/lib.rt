@@ -1,11 +1,13 @@
 // A plan built from words: parsed, checked, and written into a lent buffer.
+#![tactic(auto)]
+
 ghost use Rattle.std.specs.Prelude.{◌≡◌, ◌≤◌, length, take};
 ghost use Rattle.plan_builder.specs.Outcome.{Outcome};
 
 use plan_check::Fault;
 
 // What is wrong, or nothing and the plan's length in bytes.
-#[derive(Drop)]
+#[derive(Clone, Copy)]
 pub struct Built {
     pub fault: Fault,
     pub len: usize,

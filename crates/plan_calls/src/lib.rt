@@ -1,4 +1,6 @@
 // The calls on a plan: reading it, writing it, and opening a run of it.
+#![tactic(auto)]
+
 ghost use Rattle.std.specs.Prelude.{◌≡◌, ◌≤◌, length};
 ghost use Rattle.numbers.specs.Listed.{padded};
 ghost use Rattle.points.specs.Run.{run_of};

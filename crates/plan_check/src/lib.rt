@@ -1,4 +1,6 @@
 // What is wrong with a plan that arrays hold: nothing, or the first field at fault, by its axis and place.
+#![tactic(auto)]
+
 ghost use Rattle.std.specs.Prelude.{◌≡◌, ◌+◌, ◌*◌, ◌<◌, ◌≤◌, length};
 ghost use Rattle.plan_check.specs.Found.{fault_at, FirstNot, CoprimeAt, BasesFound, NewAt, GivenAt, PolynomialFound, AxisFound, AxesFound, Found};
 
@@ -9,7 +11,7 @@ pub const LARGE_NUMBER: u64 = 101;
 
 // The number of a refusal, or 0; the axis and the place at fault, from 1; the value that is wrong, and the one that it meets. What a
 // refusal does not have is 0.
-#[derive(Drop)]
+#[derive(Clone, Copy)]
 pub struct Fault {
     pub code: u64,
     pub axis: usize,

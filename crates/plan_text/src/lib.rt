@@ -1,4 +1,6 @@
 // The words of a plan that arrays hold, put into a lent buffer. Each `put` gives the place after what it put.
+#![tactic(auto)]
+
 ghost use Rattle.std.specs.Prelude.{◌≡◌, ℕ, ◌+◌, ◌*◌, ◌<◌, ◌≤◌, length, get_or, take, drop};
 ghost use Rattle.plan.specs.Plan.{Valid};
 ghost use Rattle.plan.specs.Answer.{axis_at, axes_of, plan_of};

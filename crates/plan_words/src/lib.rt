@@ -1,4 +1,6 @@
 // The plan that the words of a line say: the family, and a word for each axis.
+#![tactic(auto)]
+
 ghost use Rattle.std.specs.Prelude.{◌≤◌, length};
 ghost use Rattle.plan_words.specs.Parsed.{FamilyRead, BasesRead, AxesRead, Unsaid, Parsed};
 
@@ -30,7 +32,7 @@ pub fn family_of(word: &[u8]) -> u64
 // ---- the axes
 
 // The bases of a plan; or what is wrong with a word.
-#[derive(Drop)]
+#[derive(Clone, Copy)]
 struct BasesSaid {
     fault: Fault,
     bases: [u64; 6],
@@ -62,7 +64,7 @@ fn parse_bases(line: &[u8], from: usize, n: usize) -> BasesSaid
 }
 
 // The axes of a Sobol plan; or what is wrong with a word.
-#[derive(Drop)]
+#[derive(Clone, Copy)]
 struct AxesSaid {
     fault: Fault,
     polynomials: [u64; 6],
@@ -106,7 +108,7 @@ fn parse_axes(line: &[u8], from: usize, n: usize) -> AxesSaid
 // ---- the whole
 
 // What is wrong with the words; or nothing, and the plan in arrays, with 0 in the entries that it does not use.
-#[derive(Drop)]
+#[derive(Clone, Copy)]
 pub struct PlanSaid {
     pub fault: Fault,
     pub family: u64,

@@ -1,4 +1,6 @@
 // The points of a plan held in arrays: by jump and by steps. And the runs that are opened.
+#![tactic(auto)]
+
 ghost use Rattle.std.specs.Prelude.{◌≡◌, ℕ, ◌+◌, ◌^◌, ◌<◌};
 ghost use Rattle.points.specs.Arrays.{numerator_at, of_axis, point_at, denominator_at, BaseAt, AxisAt, Arrays, Within};
 ghost use Rattle.points.specs.Run.{run_of, indexes_at, start_in_range, in_range, same_starts, has_starts};

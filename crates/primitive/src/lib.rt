@@ -1,4 +1,6 @@
 // Primitive polynomials over two elements, decided by powers of x.
+#![tactic(auto)]
+
 ghost use Rattle.std.specs.Prelude.{◌≡◌, ◌∷◌, ℕ, ◌+◌, ◌-◌, ◌/◌, ◌^◌, ◌<◌, ◌≤◌, length, get_or};
 ghost use Rattle.numbers.specs.Listed.{Begins};
 ghost use Rattle.binary.specs.Gf2.{combination};

@@ -1,4 +1,6 @@
 // Reading a plan out of bytes: the header, the axes, the bits after them, and the first refusal that holds.
+#![tactic(auto)]
+
 ghost use Rattle.std.specs.Prelude.{◌≡◌, true, false, ◌*◌, ◌<◌, ◌≤◌, length, drop};
 ghost use Rattle.bits.specs.Stream.{bits_of};
 ghost use Rattle.plan.specs.Reading.{read_body, bad_tail, finish, refused, read_plan};

@@ -1,1 +1,2 @@
 // The reference points of the scope: a table, and one theorem over its rows. Laws alone, no code.
+#![tactic(auto)]

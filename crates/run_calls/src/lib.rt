@@ -1,4 +1,6 @@
 // The calls that serve a run's points: one at a time, as many as fit, and one with the state stored in place.
+#![tactic(auto)]
+
 ghost use Rattle.std.specs.Prelude.{◌≡◌, ◌+◌, ◌/◌, ◌≤◌, min};
 ghost use Rattle.columns.specs.Rows.{Columns};
 ghost use Rattle.calls.specs.Calls.{blocked, step_spec, step_buf, block_spec, block_buf, rows_spec, row_numerator};

@@ -1,5 +1,7 @@
 // All that a customer names: the state, the calls on it, what they answer, and the refusals' numbers. State goes in and comes back by value; each
 // call first tests the state, then what it is handed, and refuses by number.
+#![tactic(auto)]
+
 pub use calls::{Blocked, Jumped, Moved, SecondOfDay, Slotted};
 pub use day_calls::{day_block, day_jump, day_step, make_day_set};
 pub use day_count::day_count;

@@ -1,16 +1,18 @@
 // A window's weight: the share of a run's points that are inside, and how far it may lie from the window's volume, in nine decimals.
+#![tactic(auto)]
+
 ghost use Rattle.std.specs.Prelude.{◌≡◌, ◌^◌, ◌≤◌};
 ghost use Rattle.shares.specs.Rounding.{share_of, limit_of, billionths, difference_of};
 
 // A number's whole part and its billionths.
-#[derive(Drop)]
+#[derive(Clone, Copy)]
 pub struct NineDecimals {
     pub whole: u64,
     pub part: u64,
 }
 
 // A difference: its size, and whether it is below 0.
-#[derive(Drop)]
+#[derive(Clone, Copy)]
 pub struct Difference {
     pub is_below: bool,
     pub size: u64,

@@ -1,4 +1,6 @@
 // The Sobol axis: direction numbers, points by jump and by step.
+#![tactic(auto)]
+
 ghost use Rattle.std.specs.Prelude.{◌≡◌, ◌+◌, ◌^◌, ◌<◌, ◌≤◌, length};
 ghost use Rattle.binary.specs.Polynomial.{degree_of};
 ghost use Rattle.sobol.specs.Directions.{m_rule, m_next, m_list, scaled, directions, AllOddBelow};

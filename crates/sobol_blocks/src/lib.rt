@@ -1,4 +1,6 @@
 // Many points of a Sobol axis in a row, written to a column of a buffer, by steps.
+#![tactic(auto)]
+
 ghost use Rattle.std.specs.Prelude.{◌≡◌, ◌+◌, ◌*◌, ◌^◌, ◌<◌, ◌≤◌, length};
 ghost use Rattle.columns.specs.Rows.{Column};
 ghost use Rattle.sobol_blocks.specs.Filling.{sobol_from};

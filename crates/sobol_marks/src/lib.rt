@@ -1,5 +1,7 @@
 // Flags for the points of a Sobol axis in a row, by a table of its first points. No point is stored: a run of them is the table's entries, each
 // xor the run's one number.
+#![tactic(auto)]
+
 ghost use Rattle.std.specs.Prelude.{◌+◌, ◌-◌, ◌^◌, ◌<◌, ◌≤◌, length};
 ghost use Rattle.std.specs.Int.Bits.{bit_xor};
 ghost use Rattle.sobol.specs.Stepping.{stepped};

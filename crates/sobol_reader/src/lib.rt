@@ -1,4 +1,6 @@
 // Reading the axes of a Sobol plan: the fields in their order, and the first refusal that holds.
+#![tactic(auto)]
+
 ghost use Rattle.std.specs.Prelude.{◌≡◌, List, ℕ, ◌+◌, ◌-◌, ◌*◌, ◌<◌, ◌≤◌, length, replicate};
 ghost use Rattle.binary.specs.Polynomial.{Degree};
 ghost use Rattle.plan.specs.Reading.{polynomial_of, not_primitive, is_repeated};
@@ -8,7 +10,7 @@ ghost use Rattle.sobol_reader.specs.Axes.{MsAnswer, AxisAnswer, AxesAnswer};
 use plan::refusal;
 
 // What reading the m's of an axis comes to.
-#[derive(Drop)]
+#[derive(Clone, Copy)]
 struct MsRead {
     code: u64,
     at: usize,
@@ -91,7 +93,7 @@ fn not_primitive(d: u64, p: u64) -> bool
 }
 
 // What reading an axis comes to.
-#[derive(Drop)]
+#[derive(Clone, Copy)]
 struct AxisRead {
     code: u64,
     at: usize,
@@ -151,7 +153,7 @@ fn read_axis(bytes: &[u8], start: usize, polynomials: &[u64], n: usize) -> AxisR
 }
 
 // What reading the Sobol axes comes to.
-#[derive(Drop)]
+#[derive(Clone, Copy)]
 pub struct AxesRead {
     pub code: u64,
     pub at: usize,

@@ -1,4 +1,6 @@
 // A table of the first points of a Sobol axis, a power of two of them, 32 bits each: every later run of as many is that table and one number.
+#![tactic(auto)]
+
 ghost use Rattle.std.specs.Prelude.{◌≤◌, length};
 ghost use Rattle.numbers.specs.Listed.{Begins};
 ghost use Rattle.sobol.specs.Stepping.{stepped};

@@ -1,4 +1,6 @@
 // The sampler's state: made of a plan and a run, and moved on.
+#![tactic(auto)]
+
 ghost use Rattle.std.specs.Prelude.{◌≡◌, true, cond, ◌+◌, ◌*◌, ◌<◌, ◌≤◌, ltb, length, replicate};
 ghost use Rattle.numbers.specs.Listed.{padded};
 ghost use Rattle.plan.specs.Plan.{Valid, sobol};
@@ -11,7 +13,7 @@ use plan::PlanRead;
 
 // A sampler: its plan, its run, and how many of the run's points are taken. `directions` has 32 words for each Sobol axis; `starts` is the index
 // of the run's first point on each axis; `numerators` is the next point, and 0 where none is left. Entries that are not used are 0.
-#[derive(Drop)]
+#[derive(Clone, Copy)]
 pub struct Sampler {
     pub family: u64,
     pub axes: usize,

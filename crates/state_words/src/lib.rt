@@ -1,4 +1,6 @@
 // A state as a row of words, in the struct's order: to show it, and to set any word of it.
+#![tactic(auto)]
+
 ghost use Rattle.std.specs.Prelude.{◌≡◌, ◌+◌, ◌<◌, ◌≤◌, length};
 ghost use Rattle.state_words.specs.Words.{words_of, part, from_words, poked};
 

@@ -1,4 +1,6 @@
 // How many points of a plan's run are inside a window: by digit strips or walked, as the rule `isWalked` of `strip_order` says.
+#![tactic(auto)]
+
 ghost use Rattle.std.specs.Prelude.{◌≡◌, ◌+◌, ◌*◌, ◌^◌, ◌≤◌, length};
 ghost use Rattle.numbers.specs.Count.{count};
 ghost use Rattle.discrepancy.specs.Bound.{inside};

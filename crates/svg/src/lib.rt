@@ -1,5 +1,7 @@
 // The picture of two axes of a run or of a day set, as SVG: its points, windows as frames, and the names around them. The frame is 1,000 units
 // wide and high, and the second axis goes up.
+#![tactic(auto)]
+
 mod frames;
 mod names;
 mod points;
@@ -11,7 +13,7 @@ use sampler::Sampler;
 
 // What is drawn: the axes `x` and `y` of the sampler's run, from 1, or of its day set if `is_day`, from 0, with the time of day along axis 1 if
 // `is_time`; and how many windows.
-#[derive(Drop)]
+#[derive(Clone, Copy)]
 pub struct Drawing {
     pub state: Sampler,
     pub is_day: bool,

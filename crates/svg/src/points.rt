@@ -44,7 +44,7 @@ pub fn place(x: u64, d: u64) -> u64
 }
 
 // Two axes of a block: the places of their words, their denominators, and how many words a point has; and the points' radius.
-#[derive(Drop)]
+#[derive(Clone, Copy)]
 struct Pair {
     x: usize,
     y: usize,

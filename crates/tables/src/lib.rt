@@ -1,4 +1,6 @@
 // Tables over one Halton axis: the images of its digits give its first points.
+#![tactic(auto)]
+
 ghost use Rattle.std.specs.Prelude.{◌≡◌, ℕ, ◌+◌, ◌*◌, ◌^◌, ◌<◌, ◌≤◌, length, get_or};
 ghost use Rattle.numbers.specs.Depth.{denominator};
 ghost use Rattle.halton.specs.Axis.{numerator};

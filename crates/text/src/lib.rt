@@ -1,4 +1,6 @@
 // Bytes and decimal numbers, put into a lent buffer. Each `put` gives the place after what it put.
+#![tactic(auto)]
+
 ghost use Rattle.std.specs.Prelude.{◌≡◌, ◌+◌, ◌^◌, ◌<◌, ◌≤◌, max, length};
 ghost use Rattle.numbers.specs.Digits.{digit_count};
 ghost use Rattle.text.specs.Decimal.{decimal_digits, decimal};

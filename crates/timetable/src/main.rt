@@ -1,10 +1,12 @@
 // A day's calls out of one plan: of each point, axis 1 picks the second to wake at, axis 2 the meter to call and axis 3 the channel, each by its own
 // slot count. The day's length is handed in, since days have 82,800, 86,400 or 90,000 seconds.
+#![tactic(auto)]
+
 use libc::STDOUT_FILENO;
 use sampler::Sampler;
 
 // The slot count of each axis.
-#[derive(Drop)]
+#[derive(Clone, Copy)]
 struct SlotCounts {
     seconds: u64,
     meters: u64,

@@ -4,7 +4,7 @@ ghost use Rattle.std.specs.Prelude.{◌≡◌, true, ◌*◌, ◌≤◌, length}
 use crate::tables::GIVEN;
 
 // What a table prints: points of a Halton family; or the m's, the direction numbers or the points of a Sobol axis.
-#[derive(Drop)]
+#[derive(Clone, Copy)]
 pub enum Printed {
     Halton { family: u64 },
     SobolM,

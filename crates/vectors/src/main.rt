@@ -1,4 +1,6 @@
 // Runs the points that the source documents print through the library, and writes how many of each group agree.
+#![tactic(auto)]
+
 mod agreement;
 mod hammersley;
 mod tables;

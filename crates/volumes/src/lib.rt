@@ -1,4 +1,6 @@
 // The volume of a window: the product of its cuts, in nine decimals.
+#![tactic(auto)]
+
 ghost use Rattle.std.specs.Prelude.{◌≡◌, true, ◌*◌, ◌/◌, ◌^◌, ◌≤◌};
 ghost use Rattle.window.specs.Counting.{is_window};
 ghost use Rattle.volumes.specs.Volume.{volume_of};

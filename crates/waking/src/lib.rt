@@ -1,4 +1,6 @@
 // The owner of a sampler: a local that is lent to a step in place.
+#![tactic(auto)]
+
 ghost use Rattle.std.specs.Prelude.{◌≡◌};
 ghost use Rattle.calls.specs.Calls.{step_spec, step_buf};
 

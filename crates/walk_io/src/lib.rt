@@ -1,11 +1,13 @@
 // The program `walk`, over standard input and output. It reads more than the 72 bytes that decide. A read or a write that fails is said on standard
 // error, and nothing then looks like an answer.
+#![tactic(auto)]
+
 ghost use Rattle.io.specs.Counts.{IsPrefixLen};
 
 use libc::{STDERR_FILENO, STDIN_FILENO, STDOUT_FILENO};
 
 // How many bytes were read, and whether a read failed.
-#[derive(Drop)]
+#[derive(Clone, Copy)]
 struct Got {
     size: usize,
     is_broken: bool,

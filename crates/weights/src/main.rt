@@ -1,5 +1,7 @@
 // Reads plans, runs, day sets and windows as text from standard input, and prints each window's weight: the share of the points that are inside,
 // the window's volume, and how far the one may lie from the other.
+#![tactic(auto)]
+
 mod row;
 
 ghost use Rattle.std.specs.Prelude.{◌≡◌, ◌≤◌, length};

@@ -6,7 +6,7 @@ use shares::NineDecimals;
 
 // What a row says of a window: its line, how many of the run's points are inside, how many there are, the bound, whether it claims one, and the
 // volume in billionths.
-#[derive(Drop)]
+#[derive(Clone, Copy)]
 pub struct Row {
     pub line: u64,
     pub inside: u64,

@@ -1,4 +1,6 @@
 // Windows over a plan's run: which are taken, and the bound of demand 3.
+#![tactic(auto)]
+
 ghost use Rattle.std.specs.Prelude.{◌≡◌, ◌^◌, ◌≤◌, eqb};
 ghost use Rattle.discrepancy.specs.Bound.{factor};
 ghost use Rattle.points.specs.Arrays.{Arrays};

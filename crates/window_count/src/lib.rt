@@ -1,4 +1,6 @@
 // The window count of a sampler's run: the two calls, one definition.
+#![tactic(auto)]
+
 ghost use Rattle.std.specs.Prelude.{◌≡◌};
 ghost use Rattle.numbers.specs.Count as counting;
 ghost use Rattle.points.specs.Arrays.{of_axis, Arrays, Within};
@@ -9,7 +11,7 @@ use plan::refusal;
 use state::Sampler;
 
 // A refusal's number or 0, how many of the run's points are inside, and the bound of demand 3.
-#[derive(Drop)]
+#[derive(Clone, Copy)]
 pub struct Counted {
     pub code: u64,
     pub inside: u64,

@@ -14,7 +14,7 @@ const BAD_Q: u64 = 3;
 const ABOVE_Q: u64 = 4;
 
 // A cut: u of q, or what is wrong with it.
-#[derive(Drop)]
+#[derive(Clone, Copy)]
 struct Cut {
     wrong: u64,
     u: u64,
@@ -22,7 +22,7 @@ struct Cut {
 }
 
 // The cuts of a line: what is wrong with the last one, how many there are, and u and q of each in turn.
-#[derive(Drop)]
+#[derive(Clone, Copy)]
 pub struct Cuts {
     pub wrong: u64,
     pub axes: usize,

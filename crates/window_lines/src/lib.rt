@@ -1,5 +1,7 @@
 // A line `window U/Q U/Q ..`, with one cut for each axis, for a day set also one for its leading axis, before them, or
 // `window NAME = U/Q U/Q ..`: the window's cuts and its name, or what is wrong with them.
+#![tactic(auto)]
+
 mod cuts;
 
 ghost use Rattle.std.specs.Prelude.{◌+◌, ◌≤◌, length};
@@ -10,7 +12,7 @@ use job::Job;
 
 // A window: whether its line is good; the places of its name in the text, which are the same where it has none; how many axes it cuts, and u and q
 // of each in turn.
-#[derive(Drop)]
+#[derive(Clone, Copy)]
 pub struct WindowRead {
     pub job: Job,
     pub is_good: bool,
@@ -21,7 +23,7 @@ pub struct WindowRead {
 }
 
 // The places of a name in a text, which are the same where there is none, and where the cuts begin.
-#[derive(Drop)]
+#[derive(Clone, Copy)]
 struct Name {
     start: usize,
     end: usize,

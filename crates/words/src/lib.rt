@@ -1,18 +1,20 @@
 // The words of a line of text, and the numbers that they spell.
+#![tactic(auto)]
+
 ghost use Rattle.std.specs.Prelude.{◌≡◌, true, ◌*◌, ◌≤◌, length, drop};
 ghost use Rattle.words.specs.Word.{is_blank, span_end, FirstWord, words_in, leading};
 ghost use Rattle.words.specs.Decimal.{all_digits, number_of};
 ghost use Rattle.words.specs.Hexadecimal.{hex_value, is_hex, Hexed};
 
 // A word's place in its line; where there is no word left, start and end are the same.
-#[derive(Drop)]
+#[derive(Clone, Copy)]
 pub struct Word {
     pub start: usize,
     pub end: usize,
 }
 
 // What a word spells in decimal.
-#[derive(Drop)]
+#[derive(Clone, Copy)]
 pub enum Number {
     Value(u64),
     NoNumber,

@@ -1,4 +1,6 @@
 // Writing a plan into a lent buffer: the fields in their order, zero bits filling the last byte.
+#![tactic(auto)]
+
 ghost use Rattle.std.specs.Prelude.{◌≡◌, ◌≤◌, length};
 ghost use Rattle.bits.specs.Stream.{AllBelow, overwrite};
 ghost use Rattle.plan.specs.Plan.{plan_bits};
@@ -41,7 +43,7 @@ fn copy(out: &mut [u8], bytes: &[u8])
 }
 
 // What the writer answers: a refusal's number or 0, and the plan's length in bytes, 0 where it is refused.
-#[derive(Drop)]
+#[derive(Clone, Copy)]
 pub struct PlanWritten {
     pub code: u64,
     pub len: usize,
