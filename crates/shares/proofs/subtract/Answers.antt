@@ -7,8 +7,7 @@ use Prim.Native.Nat.{ℕ, ◌+◌, ◌-◌, ◌<◌, ◌≤◌}
 use native.Mathlib.Omega.{arith}
 use Rattle.shares.specs.declared.Difference.{Difference}
 use Rattle.shares.specs.Rounding.{difference_of}
-use Rattle.shares.proofs.subtract.Statement.{statement}
-use Rattle.shares.proofs.subtract.Tie as tie
+use Rattle.shares.proofs.subtract.Goals as goal
 
 below : (x y : ℕ) → x < y → ◌≡◌ {A = Difference} (record { is_below = true; size = y - x }) (difference_of x y)
 below x y h =
@@ -22,14 +21,8 @@ above x y h =
     let test = sym (le-ltb x y h) in
     cc
 
-sub_t4 : tie.Need-overflow-sub-t4
-sub_t4 c = search rules
+pub returns-then-x-y : goal.returns-then-x-y
+returns-then-x-y c = below c.args.x c.args.y (omega arith)
 
-returns : tie.Need-returns
-returns c = below c.before.args.x c.before.args.y (omega arith)
-
-returns_2 : tie.Need-returns-2
-returns_2 c = above c.before.args.x c.before.args.y (omega arith)
-
-pub subtract_spec : {M : Type 1} → statement M
-subtract_spec = tie.close (tie.spec sub_t4 returns returns_2)
+pub returns : goal.returns
+returns c = above c.args.x c.args.y (omega arith)
