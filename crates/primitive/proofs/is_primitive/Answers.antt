@@ -1,0 +1,58 @@
+-- `primitive::is_primitive` meets its contract. The loop's invariant: x to none of the quotients passed is 1. Assumes nothing.
+use mathlib.Core.Path.{◌≡◌}
+use mathlib.Core.Logic.{⊎_elim}
+use Prim.Native.Nat.{ℕ, suc, ◌+◌, ◌-◌, ◌^◌, ◌≤◌, ◌<◌}
+use native.Mathlib.Omega.{arith}
+use native.Mathlib.Numerals.{add-one}
+use borrow.Author.Count.{below_more, below_none}
+use lib.ListN.{get_or}
+use Rattle.binary.specs.Power.{power_of_x}
+use Rattle.binary.proofs.OrderLaws.{not_primitive_whole, not_primitive_early, primitive_by_powers}
+use Rattle.primitive.specs.Powers.{power_at}
+use Rattle.primitive.proofs.is_primitive.Goals as goal
+use Rattle.primitive.proofs.is_primitive.Goals.{After-powers_tested-powers}
+use Rattle.primitive.proofs.is_primitive.Invariants.{Passes}
+
+pub powers_tested-powers-requires : goal.powers_tested-powers-requires
+powers_tested-powers-requires c = (c.requires.0, c.requires.1, c.requires.2, c.quotients-q.ensures)
+
+-- the first power is that of 2^d - 1
+whole : (c : After-powers_tested-powers) →
+    let a = c.args in
+    get_or c.powers_tested-powers.result 0 0 ≡ power_of_x (2 ^ a.d) a.p (2 ^ a.d - 1)
+unfolding power_at
+whole c = c.powers_tested-powers.ensures.at 0 (omega arith)
+
+-- those after it are of the quotients
+early : (c : After-powers_tested-powers) (i : ℕ) → i < 4 →
+    let a = c.args in
+    get_or c.powers_tested-powers.result (i + 1) 0 ≡ power_of_x (2 ^ a.d) a.p (get_or c.quotients-q.result i 0)
+unfolding power_at
+early c i h = rw (add-one i) (c.powers_tested-powers.ensures.at (suc i) (omega arith))
+
+pub returns-then-powers-ne1 : goal.returns-then-powers-ne1
+returns-then-powers-ne1 c =
+    not_primitive_whole c.args.d c.args.p c.requires.0 c.requires.2 (λ e. omega (arith, whole (goal.at.returns-then-powers-ne1 c).After-powers_tested-powers, c.if-powers-ne1.true))
+
+pub loop-i-init : goal.loop-i-init
+loop-i-init c = (omega arith, below_none _)
+
+pub returns-then-powers-i-eq1 : goal.returns-then-powers-i-eq1
+returns-then-powers-i-eq1 c =
+    let last : c.loop-i.i < 4 = omega (arith, c.loop-i-test.true) in
+    not_primitive_early c.args.d c.args.p c.requires.0 c.requires.2 _ c.if-q-i-gt0.true (c.quotients-q.ensures.below c.loop-i.i last)
+    (omega (arith, early (goal.at.returns-then-powers-i-eq1 c).After-powers_tested-powers c.loop-i.i last, c.if-powers-i-eq1.true))
+
+pub loop-i-preserved : goal.loop-i-preserved
+loop-i-preserved c =
+    let last : c.loop-i.i < 4 = omega (arith, c.loop-i-test.true) in (
+      omega arith,
+      below_more _ c.loop-i.i c.loop-i.invariant.1
+          (⊎_elim (λ w m e. omega (arith, early (goal.at.loop-i-preserved c).After-powers_tested-powers c.loop-i.i last, w.1.left)) (λ w m e. omega (arith, w.left)) c.if-q-i-gt0.branch),
+    )
+
+pub returns : goal.returns
+returns c =
+    primitive_by_powers c.args.d c.args.p c.requires.0 c.requires.2 c.quotients-q.result c.quotients-q.ensures
+    (omega (arith, whole (goal.at.returns c).After-powers_tested-powers, c.if-powers-ne1.false))
+    (λ k h. c.loop-i.invariant.1 k (omega arith))

@@ -1,0 +1,33 @@
+-- `sobol::scale` meets its contract. The loop's invariant: every v passed is its m times its power of two. A shift loses nothing, since the m's are
+-- below their powers of two. Assumes nothing.
+use mathlib.Core.Path.{◌≡◌, refl, sym, ◌∙◌}
+use mathlib.Core.List.{List}
+use Prim.Native.Nat.{ℕ, ◌-◌, ◌*◌, ◌^◌, ◌≤◌}
+use native.Mathlib.Omega.{arith}
+use lib.ListN.{get_or, length, length-set}
+use lib.Seq.{ext_get_or}
+use Rattle.numbers.specs.Listed.{Begins}
+use Rattle.numbers.proofs.ListedLaws.{begins_none, begins_more}
+use Rattle.sobol.specs.Directions.{scaled}
+use Rattle.sobol.proofs.DirectionLaws.{shifted_exact, scaled_length, scaled_at}
+use Rattle.sobol.proofs.scale.Goals as goal
+use Rattle.sobol.proofs.scale.Invariants.{word}
+
+pub loop-i-init : goal.loop-i-init
+loop-i-init c = (omega arith, refl, begins_none _ _)
+
+pub loop-i-preserved : goal.loop-i-preserved
+loop-i-preserved c =
+    let m = c.args.t1 in
+    let l = c.loop-i in (
+      omega arith,
+      length-set l.v l.i _ ∙ l.invariant.1,
+      begins_more l.invariant.2 (omega arith) (shifted_exact 32 m l.i (31 - l.i) c.requires (omega arith) (omega arith)),
+    )
+
+pub returns : goal.returns
+returns c =
+    let m = c.args.t1 in
+    let l = c.loop-i in
+    let n : length m ≡ 32 = c.well_formed.0.1.0.1 in
+    ext_get_or 0 l.v (scaled 0 m) (l.invariant.1 ∙ sym (scaled_length 0 m ∙ n)) (λ k h. l.invariant.2.at k (omega arith) ∙ sym (scaled_at m k))
