@@ -1,0 +1,16 @@
+-- The family picks the rules. Assumes nothing.
+use native.Mathlib.Omega.{arith}
+use Rattle.fitting.proofs.AnswerLaws.{rests}
+use borrow.Author.Rules.{rules}
+use Rattle.genuine.proofs.is_plan.Goals as goal
+
+pub returns-then-family-eq2 : goal.returns-then-family-eq2
+returns-then-family-eq2 c =
+    rests c.is_sobol.ensures (λ z. record { if_halton = λ n. absurd (n (omega arith)); if_sobol = λ e. z }) (λ f. f.if_sobol (omega arith))
+
+pub is_halton-requires : goal.is_halton-requires
+is_halton-requires c = (search rules, λ e. omega arith)
+
+pub returns : goal.returns
+returns c =
+    rests c.is_halton.ensures (λ z. record { if_halton = λ n. z; if_sobol = λ e. absurd (omega (arith, e)) }) (λ f. f.if_halton (λ e. omega (arith, e)))

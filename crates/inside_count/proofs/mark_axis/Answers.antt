@@ -1,0 +1,34 @@
+-- `inside_count::mark_axis` meets its contract: a Sobol axis goes over its own 32 direction numbers, and a Halton axis in its own base.
+-- Assumes nothing.
+use Prim.Native.Nat.{◌+◌}
+use native.Mathlib.Omega.{arith}
+use borrow.Author.Rules.{rules}
+use Rattle.halton_blocks.specs.Filling.{halton_from}
+use Rattle.sobol_blocks.specs.Filling.{sobol_from}
+use Rattle.marks.proofs.MarkLaws.{marked_as}
+use Rattle.points.specs.Arrays.{numerator_from}
+use Rattle.points.proofs.ArrayLaws.{numerator_by_part, numerator_by_base}
+use Rattle.inside_count.proofs.FlagLaws.{directions_of}
+use Rattle.inside_count.proofs.mark_axis.Goals as goal
+
+pub sobol_marks-requires : goal.sobol_marks-requires
+sobol_marks-requires c =
+    (directions_of c.requires.0 (omega arith) (search rules), omega arith, omega arith)
+
+pub returns-then-family-eq2 : goal.returns-then-family-eq2
+unfolding numerator_from sobol_from
+returns-then-family-eq2 c =
+    let a = c.args in
+    marked_as c.sobol_marks.ensures (numerator_from a.family a.bases.now a.directions.now a.n a.i)
+    (λ k h l. numerator_by_part a.family a.bases.now a.directions.now (a.n + k) a.i (omega arith))
+
+pub halton_marks-requires : goal.halton_marks-requires
+halton_marks-requires c =
+    omega (arith, c.requires.0.base.low (λ e. omega arith), c.requires.0.base.high (λ e. omega arith))
+
+pub returns : goal.returns
+unfolding numerator_from halton_from
+returns c =
+    let a = c.args in
+    marked_as c.halton_marks.ensures (numerator_from a.family a.bases.now a.directions.now a.n a.i)
+    (λ k h l. numerator_by_base a.family a.bases.now a.directions.now (a.n + k) a.i (λ e. omega arith))
