@@ -24,11 +24,11 @@ use Rattle.calls.specs.Calls.{moved, blocked, slotted, split_start, spent, run_o
 
 -- ---- the test that every call makes first, negated in the code
 
-pub foreign_of : (r t : Bool) → r ≡ t → not r ≡ true → t ≡ false
-foreign_of r t e h = sym e ∙ not-true r h
+pub foreign_of : (r t : Bool) → r ≡ t → r ≡ false → t ≡ false
+foreign_of r t e h = sym e ∙ h
 
-pub known_of : (r t : Bool) → r ≡ t → not r ≡ false → t ≡ true
-known_of r t e h = sym e ∙ not-false r h
+pub known_of : (r t : Bool) → r ≡ t → r ≡ true → t ≡ true
+known_of r t e h = sym e ∙ h
 
 -- ---- read
 

@@ -13,11 +13,7 @@ use Rattle.numbers.proofs.ListedLaws.{zeros_at}
 use Rattle.fitting.specs.Fits.{ZeroFrom}
 use Rattle.state.proofs.SameLaws.{same_words_refl, same_words_is}
 use Rattle.day_set.specs.DaySet.{from_zero}
-use Rattle.day_set.proofs.from_zero.Statement.{statement}
-use Rattle.day_set.proofs.from_zero.Tie as tie
-
-is_zero_requires : tie.Need-is-zero-requires
-is_zero_requires c κs = search rules
+use Rattle.day_set.proofs.from_zero.Goals as goal
 
 tested : (r : Bool) (l : List ℕ) → length l ≡ 6 → (r ≡ true) ↔ ZeroFrom 0 l → r ≡ from_zero l
 tested true l six z =
@@ -28,8 +24,5 @@ tested false l six z =
     (λ t. z.1 (λ i h. ap (λ (x : List ℕ). get_or x i 0) (same_words_is l (replicate 6 0) t) ∙ zeros_at 6 i) ∙ sym t)
     (λ t. sym t) (true_or_false (from_zero l))
 
-returns : tie.Need-returns
-returns c = tested _ _ c.before.before.requires c.is_zero.ensures
-
-pub from_zero_spec : {M : Type 1} → statement M
-from_zero_spec = tie.close (tie.spec is_zero_requires returns)
+pub returns : goal.returns
+returns c = tested _ _ c.requires c.is_zero.ensures
