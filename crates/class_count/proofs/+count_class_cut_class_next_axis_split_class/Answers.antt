@@ -3,15 +3,15 @@ use mathlib.Core.Path.{◌≡◌, refl, sym, ap, ◌∙◌, subst}
 use mathlib.Core.Bool.{true, false}
 use mathlib.Core.Logic.{⊎_elim}
 use Prim.Native.Nat.{ℕ, ◌+◌, ◌-◌, ◌*◌, ◌/◌, ◌%◌, ◌^◌, ◌<◌, ◌≤◌}
-use native.Mathlib.Nat.{mod-lt, div-le_self}
+use native.Mathlib.Nat.{mod-lt}
 use native.Mathlib.Omega.{arith}
 use lib.ListN.{get_or}
 use Rattle.numbers.specs.Count.{count}
 use Rattle.numbers.proofs.Cases.{lt_or_ge}
 use Rattle.strips.specs.Classes.{class_size, behind, inside_along, in_class, base_in, start_in, q_in, image_from, table_axes, Step, Split}
 use Rattle.strips.proofs.SizeLaws.{class_lt, class_by, count_empty}
-use Rattle.strips.proofs.HeldLaws.{held_digits, held_places, held_ends, held_times, held_less, steps_less, steps_reads, steps_times, steps_split, reads_split}
-use Rattle.strips.proofs.SplitLaws.{first, split_none, split_le, split_all, split_full, split_image, split_nothing, split_one, split_behind, split_inside, split_outside, split_whole, axes_last, axes_same, axes_one, axes_more}
+use Rattle.strips.proofs.HeldLaws.{held_digits, held_ends, held_less, steps_less, steps_reads, steps_times, steps_split, reads_split}
+use Rattle.strips.proofs.SplitLaws.{first, split_none, split_le, split_all, split_full, split_nothing, split_one, split_behind, split_inside, split_outside, split_whole, axes_last, axes_same, axes_one, axes_more}
 use Rattle.class_count.proofs.+count_class_cut_class_next_axis_split_class.Goals as goal
 use Rattle.class_count.proofs.+count_class_cut_class_next_axis_split_class.Goals.{split_class-In-loop-i, split_class-After-is_whole, split_class-then-is_whole+then-s-eq0, split_class-then-is_whole+else-s-eq0, split_class-else-is_whole+then-is_cut, split_class-else-is_whole+else-is_cut}
 
@@ -209,13 +209,13 @@ split_class-cut_class-n-requires t c =
     let q = q_in a.rows.now a.s in
     let r = c.requires in
     let e = held_ends r.0 a.s (omega arith) in
-    let f = mod-lt (a.v * b) {m = q} e.q_pos in
-    let g = mod-lt (a.u * b) {m = q} e.q_pos in (
+    let lo : c.rest_behind-lo.result ≤ q = c.rest_behind-lo.ensures.1 (omega (arith, c.lower_rest-left.ensures, mod-lt (a.v * b) {m = q} e.q_pos)) in
+    let hi : c.rest_behind-hi.result ≤ q = c.rest_behind-hi.ensures.1 (omega (arith, mod-lt (a.u * b) {m = q} e.q_pos)) in (
       omega (arith, smaller t w),
       (
         r.0,
-        omega (arith, c.rest_behind-lo.ensures.1 (omega (arith, c.lower_rest-left.ensures)), e.q_small),
-        omega (arith, c.rest_behind-hi.ensures.1 (omega arith), e.q_small),
+        omega (arith, lo, hi, e.q_small),
+        omega (arith, lo, hi, e.q_small),
         reads_split (turn t w).0 (size t w) r.3,
         r.4,
         steps_split (turn t w).0 (size t w) r.5,

@@ -1,6 +1,6 @@
 -- `class_count::below_rest` meets its contract: what is left of the index lies below what is left of the cut where the whole does. Assumes
 -- nothing.
-use mathlib.Core.Path.{◌≡◌, refl, sym, ap, ◌∙◌}
+use mathlib.Core.Path.{refl, sym, ap, ◌∙◌}
 use Prim.Native.Nat.{◌+◌, ◌*◌, ◌/◌, ◌%◌, ◌^◌, ◌<◌, ◌≤◌}
 use native.Mathlib.Nat.{mod-lt, div-le_self, div-lt_self}
 use native.Mathlib.Omega.{arith}

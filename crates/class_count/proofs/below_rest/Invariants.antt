@@ -1,14 +1,8 @@
 -- `class_count::below_rest` meets its contract: what is left of the index lies below what is left of the cut where the whole does. Assumes
 -- nothing.
-use mathlib.Core.Path.{◌≡◌, refl, sym, ap, ◌∙◌}
-use Prim.Native.Nat.{◌+◌, ◌*◌, ◌/◌, ◌%◌, ◌^◌, ◌<◌, ◌≤◌}
-use native.Mathlib.Nat.{mod-lt, div-le_self, div-lt_self}
-use native.Mathlib.Omega.{arith}
-use lib.ListN.{length}
-use Rattle.discrepancy.proofs.CutLaws.{Decided}
-use Rattle.strips.specs.Classes.{below_rest, base_in, q_in, image_from, Digits}
-use Rattle.strips.proofs.RestLaws.{rest_digit, rest_zero}
-use Rattle.strips.proofs.HeldLaws.{held_digits, held_places, held_ends, held_image, held_times}
+use mathlib.Core.Path.{◌≡◌}
+use Prim.Native.Nat.{◌*◌, ◌^◌, ◌<◌, ◌≤◌}
+use Rattle.strips.specs.Classes.{below_rest, image_from}
 use Rattle.class_count.proofs.below_rest.Given as goal
 
 abbrev pub invariant-loop-n : goal.invariant-loop-n

@@ -3,7 +3,6 @@ use mathlib.Core.Path.{ap}
 use native.Mathlib.Omega.{arith}
 use borrow.Author.Tests.{lt-ltb, le-ltb}
 use Rattle.numbers.specs.Count.{bit}
-use borrow.Author.Rules.{rules}
 use Rattle.class_count.proofs.class_size.Goals as goal
 
 pub returns-then-i-more : goal.returns-then-i-more

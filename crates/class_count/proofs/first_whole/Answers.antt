@@ -3,7 +3,6 @@ use mathlib.Core.Path.{ap}
 use native.Mathlib.Omega.{arith}
 use borrow.Author.Tests.{lt-ltb, le-ltb}
 use Rattle.numbers.specs.Count.{bit}
-use borrow.Author.Rules.{rules}
 use Rattle.class_count.proofs.first_whole.Goals as goal
 
 pub returns-then-left-gt0 : goal.returns-then-left-gt0

@@ -1,6 +1,5 @@
 -- `class_count::inside_step` meets its contract. Assumes nothing.
 use mathlib.Core.Path.{sym, ap, ◌∙◌}
-use borrow.Author.Rules.{rules}
 use Rattle.numbers.specs.Count.{bit}
 use Rattle.class_count.proofs.inside_step.Goals as goal
 

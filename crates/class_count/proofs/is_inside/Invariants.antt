@@ -1,14 +1,8 @@
 -- `class_count::is_inside` meets its contract: the step is inside on all axes where it is on those that are left. Assumes nothing.
-use mathlib.Core.Path.{◌≡◌, refl, sym, ap, ◌∙◌}
-use mathlib.Core.Bool.{Bool, ◌&&◌}
-use Prim.Native.Nat.{ℕ, ◌+◌, ◌-◌, ◌*◌, ◌^◌, ◌<◌, ◌≤◌}
-use native.Mathlib.Omega.{arith}
-use borrow.Author.Tests.{not-true, not-false}
-use lib.ListN.{length}
+use mathlib.Core.Path.{◌≡◌}
+use Prim.Native.Nat.{◌≤◌}
 use Rattle.strips.specs.Ends.{inside_ends}
-use Rattle.strips.specs.Classes.{start_in, l_in, u_in, table_axes}
-use Rattle.strips.proofs.HeldLaws.{held_places, held_ends, held_less}
-use Rattle.strips.proofs.TableLaws.{table_none, table_more}
+use Rattle.strips.specs.Classes.{table_axes}
 use Rattle.class_count.proofs.is_inside.Given as goal
 
 abbrev pub invariant-loop-i : goal.invariant-loop-i

@@ -1,5 +1,5 @@
 -- `class_count::is_whole` meets its contract. Assumes nothing.
-use mathlib.Core.Bool.{true≢false, false≢true}
+use mathlib.Core.Bool.{false≢true}
 use native.Mathlib.Omega.{arith}
 use borrow.Author.Tests.{ltb-true, ltb-false}
 use Rattle.class_count.proofs.is_whole.Goals as goal

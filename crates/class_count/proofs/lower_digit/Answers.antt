@@ -1,5 +1,5 @@
 -- `class_count::lower_digit` meets its contract. Assumes nothing.
-use mathlib.Core.Path.{◌≡◌, refl, sym}
+use mathlib.Core.Path.{refl, sym}
 use native.Mathlib.Nat.{zero-mul, zero-div}
 use native.Mathlib.Omega.{arith}
 use Rattle.class_count.proofs.lower_digit.Goals as goal

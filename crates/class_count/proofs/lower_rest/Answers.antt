@@ -1,5 +1,5 @@
 -- `class_count::lower_rest` meets its contract. Assumes nothing.
-use mathlib.Core.Path.{◌≡◌, refl, sym}
+use mathlib.Core.Path.{refl, sym}
 use native.Mathlib.Nat.{zero-mul, zero-mod}
 use native.Mathlib.Omega.{arith}
 use Rattle.class_count.proofs.lower_rest.Goals as goal

@@ -3,7 +3,6 @@ use mathlib.Core.Path.{refl, ◌∙◌}
 use native.Mathlib.Omega.{arith}
 use Rattle.strips.proofs.HeldLaws.{held_less}
 use Rattle.strips.proofs.TableLaws.{passes_out, passes_in}
-use borrow.Author.Rules.{rules}
 use Rattle.class_count.proofs.one_step.Goals as goal
 
 pub returns-then-not-within_rest : goal.returns-then-not-within_rest

@@ -1,6 +1,5 @@
 -- `class_count::within_rest` meets its contract. Assumes nothing.
 use Rattle.strips.proofs.TableLaws.{rest_out, rest_in, rest_free}
-use borrow.Author.Rules.{rules}
 use Rattle.class_count.proofs.within_rest.Goals as goal
 
 pub returns-then-not-below_rest : goal.returns-then-not-below_rest
