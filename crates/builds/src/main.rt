@@ -1,7 +1,7 @@
 // Builds plans from lines of words, and prints under each line the plan's bytes in hexadecimal and its words, or what is wrong.
 #![tactic(auto)]
 
-use libc::STDOUT_FILENO;
+const STDOUT_FILENO: i32 = 1;
 
 fn print(text: &[u8]) {
     io::write_all(STDOUT_FILENO, text);

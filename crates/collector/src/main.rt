@@ -4,8 +4,9 @@
 ghost use Rattle.std.specs.Prelude.{◌≡◌};
 ghost use Rattle.collector.specs.Serving.{ended, served, is_over};
 
-use libc::STDOUT_FILENO;
 use sampler::{Moved, Sampler, refusal};
+
+const STDOUT_FILENO: i32 = 1;
 
 // Writes a line: the number that a step answered, and the words of the point.
 fn say(code: u64, point: &[u64]) {

@@ -1,6 +1,6 @@
 // A console for testers: a call a line, an answer a line.
 #![tactic(auto)]
 
-fn main() {
-    console_io::serve();
+fn main(rt: HostRuntime) {
+    console_io::serve(rt.stdin());
 }

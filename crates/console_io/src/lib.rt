@@ -6,6 +6,7 @@ ghost use Rattle.std.specs.Prelude.{◌≤◌, length};
 
 use console_lines::{Counting, Held, Lent};
 use console_text::Console;
+use std::rt::Stdin;
 
 // ---- the lines, by their first word
 
@@ -153,14 +154,14 @@ fn finish(c: Console, out: &mut [u8]) {
 
 // Answers standard input, line by line. A proved loop has to end, and nothing says that the input does: so the loop counts its turns down,
 // from a number that no run uses up.
-pub fn serve() {
+pub fn serve(stdin: Stdin) {
     let mut chunk = io::buffer();
     let mut line = [0u8; 1024];
     let mut out = io::buffer();
     let mut c = console_text::start();
     let mut turns = u64::MAX;
     while turns > 0 {
-        let l = lines::next(c.lines, &mut chunk, &mut line, &out);
+        let l = lines::next(stdin, c.lines, &mut chunk, &mut line, &out);
         c = console_text::with_lines(c, l);
         if l.is_over {
             break;

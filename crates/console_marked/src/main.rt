@@ -1,6 +1,6 @@
 // The program `console` on an input that begins with a byte order mark, has carriage returns and ends without a newline.
 #![tactic(auto)]
 
-fn main() {
-    console_io::serve();
+fn main(rt: HostRuntime) {
+    console_io::serve(rt.stdin());
 }

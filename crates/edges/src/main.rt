@@ -2,8 +2,9 @@
 // that came.
 #![tactic(auto)]
 
-use libc::STDOUT_FILENO;
 use sampler::{Counted, DaySet, Sampler};
+
+const STDOUT_FILENO: i32 = 1;
 
 // Writes a line: a label and a number.
 fn report(label: &[u8], n: u64) {

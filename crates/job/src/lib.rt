@@ -18,6 +18,7 @@ pub use plans::plan_line;
 pub use report::{end, end_number, error, fail, more_errors, say, say_between};
 pub use run::run_line;
 use sampler::Sampler;
+use std::rt::Stdin;
 
 // What the lines so far leave: the input and the output; whether errors are texts of a picture; the number of the line at hand, how many lines
 // were in error, and whether the error at hand is not shown; whether a plan is in force, whether a run or a day set of it is, and whether that is a
@@ -64,11 +65,11 @@ pub fn new(is_picture: bool) -> Job {
 }
 
 // Reads the next line. That the input cannot be read to its end is an error.
-pub fn read(j: Job, chunk: &mut [u8], line: &mut [u8], out: &mut [u8]) -> Job
+pub fn read(stdin: Stdin, j: Job, chunk: &mut [u8], line: &mut [u8], out: &mut [u8]) -> Job
     requires { (1 ≤ length chunk.old) × (1024 ≤ length line.old) }
 {
     let mut next = j;
-    next.lines = lines::next(j.lines, chunk, line, out);
+    next.lines = lines::next(stdin, j.lines, chunk, line, out);
     next.line = std::num::wrapping_add_u64(j.line, 1);
     if next.lines.is_broken {
         return error(next, out, b"the input cannot be read to its end");

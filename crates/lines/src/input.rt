@@ -3,7 +3,8 @@ ghost use Rattle.std.specs.Prelude.{◌≡◌, ◌+◌, ◌≤◌, min, length};
 ghost use Rattle.lines.specs.Kept.{Kept};
 
 use crate::{Lines, flush, least};
-use libc::STDIN_FILENO;
+use std::io::Read;
+use std::rt::Stdin;
 
 // Keeps a byte of a line that has `size`, if it is one of the first 1,024; gives how many the line has then, 1,025 standing for 1,024 and a
 // carriage return, and 1,026 for any other number above 1,024.
@@ -122,12 +123,20 @@ fn over(l: Lines, is_broken: bool) -> Lines
 }
 
 // More input, at the front of the chunk: none at the input's end, and none where a read fails. What waits to be written goes out before.
-fn fill(l: Lines, chunk: &mut [u8], out: &[u8]) -> Lines {
+fn fill(stdin: Stdin, l: Lines, chunk: &mut [u8], out: &[u8]) -> Lines {
     let mut next = flush(l, out);
-    let got = libc::read(STDIN_FILENO, chunk);
+    let mut input = stdin;
     next.at = 0;
-    next.filled = io::count(got, chunk);
-    next.is_broken = got < 0;
+    match input.read(chunk) {
+        Ok(n) => {
+            next.filled = n;
+            next.is_broken = false;
+        }
+        Err(_) => {
+            next.filled = 0;
+            next.is_broken = true;
+        }
+    }
     next
 }
 
@@ -157,7 +166,7 @@ fn begin(l: Lines) -> Lines {
 // Reads the next line, without its newline, its comment and a carriage return at its end; the last line may have no newline. An empty chunk
 // would make any input look ended. A proved loop has to end, and nothing says that the input does: so the loop counts its turns down, from
 // a number that no run uses up.
-pub fn next(l: Lines, chunk: &mut [u8], line: &mut [u8], out: &[u8]) -> Lines
+pub fn next(stdin: Stdin, l: Lines, chunk: &mut [u8], line: &mut [u8], out: &[u8]) -> Lines
     requires { (1 ≤ length chunk.old) × (1024 ≤ length line.old) }
     ensures { result.size ≤ 1025 }
 {
@@ -168,7 +177,7 @@ pub fn next(l: Lines, chunk: &mut [u8], line: &mut [u8], out: &[u8]) -> Lines
         if now.has_ended {
             return whole(now, line);
         }
-        now = fill(now, chunk, out);
+        now = fill(stdin, now, chunk, out);
         if now.filled == 0 {
             return last_line(now, line);
         }

@@ -3,7 +3,10 @@ ghost use Rattle.std.specs.Prelude.{◌≡◌};
 ghost use Rattle.lines.specs.Put.{Put};
 
 use crate::{Lines, least};
-use libc::{STDERR_FILENO, STDOUT_FILENO};
+
+const STDOUT_FILENO: i32 = 1;
+
+const STDERR_FILENO: i32 = 2;
 
 // Writes a text past the buffer. After a failed write nothing is written any more, so that the output is a beginning of the whole.
 fn write(l: Lines, text: &[u8]) -> Lines

@@ -6,8 +6,9 @@
 
 ghost use Rattle.std.specs.Prelude.{◌<◌};
 
-use libc::STDOUT_FILENO;
 use sampler::Sampler;
+
+const STDOUT_FILENO: i32 = 1;
 
 // The steps of a run.
 const STEPS: u64 = 1000;

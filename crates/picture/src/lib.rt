@@ -5,6 +5,7 @@ ghost use Rattle.std.specs.Prelude.{◌≡◌, ◌≤◌, length};
 
 use job::Job;
 use lines::Lines;
+use std::rt::Stdin;
 use svg::Drawing;
 
 // What the lines so far ask for, how many windows of the run are kept, and the number of the line of the first that is not, or 0.
@@ -124,6 +125,7 @@ fn text_line(p: Wanted, out: &mut [u8], text: &[u8], kept: &mut [u64], names: &m
 
 // Reads the next line, and does what it asks for.
 fn line(
+    stdin: Stdin,
     p: Wanted,
     chunk: &mut [u8],
     held: &mut [u8],
@@ -134,7 +136,7 @@ fn line(
     requires { (p.windows ≤ 32) × (1 ≤ length chunk.old) × (1024 ≤ length held.old) × (448 ≤ length kept.old) × (1024 ≤ length names.old) }
     ensures { result.windows ≤ 32 }
 {
-    let j = job::read(p.job, chunk, held, out);
+    let j = job::read(stdin, p.job, chunk, held, out);
     let l = j.lines;
     let windows = p.windows;
     let more_at = p.more_at;
@@ -292,7 +294,7 @@ fn end(p: Wanted, out: &mut [u8], kept: &[u64], names: &[u8])
 }
 
 // The program `plot`: reads a plan, a run or a day set, two axes and windows from standard input, and draws.
-pub fn plot() {
+pub fn plot(stdin: Stdin) {
     let mut chunk = io::buffer();
     let mut held = [0u8; 1024];
     let mut out = [0u8; 16448];
@@ -303,7 +305,9 @@ pub fn plot() {
     let mut p = afresh(j);
     let mut turns = u64::MAX;
     while turns > 0 {
-        p = line(p, &mut chunk, &mut held, &mut out, &mut kept, &mut names);
+        p = line(
+            stdin, p, &mut chunk, &mut held, &mut out, &mut kept, &mut names,
+        );
         turns = job::turns_left(p.job, turns);
     }
     end(p, &mut out, &kept, &names);

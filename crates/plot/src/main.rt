@@ -1,6 +1,6 @@
 // Draws two axes of a plan's run. Its test exchanges the axes.
 #![tactic(auto)]
 
-fn main() {
-    picture::plot();
+fn main(rt: HostRuntime) {
+    picture::plot(rt.stdin());
 }

@@ -2,8 +2,9 @@
 // slot count. The day's length is handed in, since days have 82,800, 86,400 or 90,000 seconds.
 #![tactic(auto)]
 
-use libc::STDOUT_FILENO;
 use sampler::Sampler;
+
+const STDOUT_FILENO: i32 = 1;
 
 // The slot count of each axis.
 #[derive(Clone, Copy)]

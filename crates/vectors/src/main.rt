@@ -6,7 +6,8 @@ mod hammersley;
 mod tables;
 
 use agreement::Printed;
-use libc::STDOUT_FILENO;
+
+const STDOUT_FILENO: i32 = 1;
 
 // Writes a group's line: its label, how many of its rows agree, and how many there are.
 fn put_line(label: &[u8], agreed: usize, rows: usize) {

@@ -1,6 +1,6 @@
 // The program `walk`. Its test is R5's plan.
 #![tactic(auto)]
 
-fn main() {
-    walk_io::walk();
+fn main(rt: HostRuntime) {
+    walk_io::walk(rt.stdin());
 }

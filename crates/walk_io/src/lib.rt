@@ -4,7 +4,12 @@
 
 ghost use Rattle.io.specs.Counts.{IsPrefixLen};
 
-use libc::{STDERR_FILENO, STDIN_FILENO, STDOUT_FILENO};
+use std::io::Read;
+use std::rt::Stdin;
+
+const STDOUT_FILENO: i32 = 1;
+
+const STDERR_FILENO: i32 = 2;
 
 // How many bytes were read, and whether a read failed.
 #[derive(Clone, Copy)]
@@ -14,20 +19,27 @@ struct Got {
 }
 
 // Reads standard input into a buffer, up to its end or until the buffer is full.
-fn read_all(input: &mut [u8]) -> Got
+fn read_all(stdin: Stdin, input: &mut [u8]) -> Got
     ensures { IsPrefixLen result.size input.new }
 {
+    let mut from = stdin;
     let mut size = 0;
     while size < input.len() {
-        let got = libc::read(STDIN_FILENO, &mut input[size..]);
-        let n = io::count(got, &input[size..]);
-        if n == 0 {
-            return Got {
-                size,
-                is_broken: got < 0,
-            };
+        match from.read(&mut input[size..]) {
+            Ok(0) => {
+                return Got {
+                    size,
+                    is_broken: false,
+                };
+            }
+            Ok(n) => size += n,
+            Err(_) => {
+                return Got {
+                    size,
+                    is_broken: true,
+                };
+            }
         }
-        size += n;
     }
     Got {
         size,
@@ -36,9 +48,9 @@ fn read_all(input: &mut [u8]) -> Got
 }
 
 // Reads plan bytes, and prints the number of axes and the points of the indexes 0 to 3, or the refusal.
-pub fn walk() {
+pub fn walk(stdin: Stdin) {
     let mut input = [0u8; 128];
-    let r = read_all(&mut input);
+    let r = read_all(stdin, &mut input);
     if r.is_broken {
         io::write_all(STDERR_FILENO, b"the input cannot be read to its end\n");
         return;

@@ -11,6 +11,7 @@ use job::Job;
 use lines::{Lines, put};
 use row::Row;
 use sampler::{Counted, DaySet, Sampler};
+use std::rt::Stdin;
 
 // What the columns are.
 fn head(l: Lines, out: &mut [u8]) -> Lines {
@@ -107,10 +108,10 @@ fn text_line(j: Job, out: &mut [u8], text: &[u8]) -> Job
 }
 
 // Reads the next line, and does what it asks for.
-fn line(before: Job, chunk: &mut [u8], kept: &mut [u8], out: &mut [u8]) -> Job
+fn line(stdin: Stdin, before: Job, chunk: &mut [u8], kept: &mut [u8], out: &mut [u8]) -> Job
     requires { (1 ≤ length chunk.old) × (1024 ≤ length kept.old) }
 {
-    let j = job::read(before, chunk, kept, out);
+    let j = job::read(stdin, before, chunk, kept, out);
     let l = j.lines;
     if l.is_over {
         return j;
@@ -127,7 +128,8 @@ fn tail(j: Job, out: &mut [u8]) {
     lines::finish(l, out);
 }
 
-fn main() {
+fn main(rt: HostRuntime) {
+    let stdin = rt.stdin();
     let mut chunk = io::buffer();
     let mut kept = [0u8; 1024];
     let mut out = [0u8; 16384];
@@ -135,7 +137,7 @@ fn main() {
     j.lines = head(j.lines, &mut out);
     let mut turns = u64::MAX;
     while turns > 0 {
-        j = line(j, &mut chunk, &mut kept, &mut out);
+        j = line(stdin, j, &mut chunk, &mut kept, &mut out);
         turns = job::turns_left(j, turns);
     }
     tail(j, &mut out);

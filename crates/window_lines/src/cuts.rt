@@ -62,10 +62,9 @@ fn no_value(n: Number) -> u64 {
 
 // The cut that a word spells.
 fn read_cut(word: &[u8]) -> Cut {
-    let slash = bytes::scan::find(word, 0, word.len(), b'/');
-    if slash == word.len() {
+    let Some(slash) = memchr::memchr(b'/', word) else {
         return wrong(NOT_A_CUT);
-    }
+    };
     let after = slash + 1;
     let above = words::decimal(&word[0..slash]);
     let Number::Value(u) = above else {
