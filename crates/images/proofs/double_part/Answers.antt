@@ -1,9 +1,8 @@
 -- `images::double_part` meets its contract: the numbers before place k are doubled, and no number that is still to be read is touched. Assumes nothing.
 use mathlib.Core.Path.{◌≡◌, refl}
-use Prim.Native.Nat.{◌-◌, ◌≤◌, ◌<◌}
+use Prim.Native.Nat.{◌<◌}
 use native.Mathlib.Omega.{arith}
-use lib.ListN.{length, get_or, length-set}
-use Rattle.images.specs.Doubled.{Doubled}
+use lib.ListN.{get_or, length-set}
 use Rattle.images.proofs.DoubledLaws.{doubled_none, doubled_read, doubled_more, doubled_as}
 use Rattle.images.proofs.double_part.Goals as goal
 use Rattle.images.proofs.double_part.Goals.{In-loop-k}

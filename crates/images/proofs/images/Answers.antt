@@ -3,7 +3,6 @@ use native.Mathlib.Omega.{arith}
 use Rattle.numbers.proofs.ListedLaws.{begins_as}
 use Rattle.permutation.specs.Families.{image_of}
 use Rattle.permutation.proofs.FamilyLaws.{image_permuted, image_kocis, image_plain}
-use borrow.Author.Rules.{rules}
 use Rattle.images.proofs.images.Goals as goal
 
 pub returns-then-family-eq1 : goal.returns-then-family-eq1

@@ -1,12 +1,12 @@
 -- `images::odd_images` meets its contract: as an even base goes, each image raised, and the centre last. Assumes nothing.
 use mathlib.Core.Path.{◌≡◌, refl, ap, ◌∙◌}
-use Prim.Native.Nat.{ℕ, ◌+◌, ◌-◌, ◌*◌, ◌/◌, ◌≤◌, ◌<◌}
+use Prim.Native.Nat.{ℕ, ◌+◌, ◌*◌, ◌/◌, ◌<◌}
 use native.Mathlib.Omega.{arith}
-use lib.ListN.{length, get_or, length-set}
+use lib.ListN.{get_or, length-set}
 use Rattle.permutation.specs.Faure.{open_gap, faure}
 use Rattle.permutation.proofs.FaureRules.{odd_middle}
 use Rattle.permutation.proofs.FaureLaws.{faure_below}
-use Rattle.images.proofs.ImageLaws.{Halves, halves_none, halves_more, halves_centre}
+use Rattle.images.proofs.ImageLaws.{halves_none, halves_more, halves_centre}
 use Rattle.images.proofs.HalfLaws.{odd_low, odd_high}
 use Rattle.images.proofs.odd_images.Goals as goal
 use Rattle.images.proofs.odd_images.Goals.{In-loop-k}

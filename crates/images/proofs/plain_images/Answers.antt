@@ -1,9 +1,7 @@
 -- `images::plain_images` meets its contract: after d turns the first d entries are images. Assumes nothing.
-use mathlib.Core.Path.{◌≡◌, refl}
-use Prim.Native.Nat.{◌-◌, ◌≤◌}
+use mathlib.Core.Path.{refl}
 use native.Mathlib.Omega.{arith}
-use lib.ListN.{length, length-set}
-use Rattle.numbers.specs.Listed.{Begins}
+use lib.ListN.{length-set}
 use Rattle.numbers.proofs.ListedLaws.{begins_none, begins_more, begins_less}
 use Rattle.permutation.specs.Families.{image_of}
 use Rattle.images.proofs.plain_images.Goals as goal

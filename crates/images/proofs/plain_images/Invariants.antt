@@ -1,10 +1,8 @@
 -- `images::plain_images` meets its contract: after d turns the first d entries are images. Assumes nothing.
-use mathlib.Core.Path.{◌≡◌, refl}
+use mathlib.Core.Path.{◌≡◌}
 use Prim.Native.Nat.{◌-◌, ◌≤◌}
-use native.Mathlib.Omega.{arith}
-use lib.ListN.{length, length-set}
+use lib.ListN.{length}
 use Rattle.numbers.specs.Listed.{Begins}
-use Rattle.numbers.proofs.ListedLaws.{begins_none, begins_more, begins_less}
 use Rattle.permutation.specs.Families.{image_of}
 use Rattle.images.proofs.plain_images.Given as goal
 

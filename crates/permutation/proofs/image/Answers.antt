@@ -1,7 +1,6 @@
 -- One law of the families an arm. Assumes nothing.
 use mathlib.Core.Path.{◌∙◌}
 use native.Mathlib.Omega.{arith}
-use borrow.Author.Rules.{rules}
 use Rattle.permutation.proofs.FamilyLaws.{image_permuted, image_kocis, image_plain}
 use Rattle.permutation.proofs.image.Goals as goal
 

@@ -1,8 +1,5 @@
 -- `permutation::image_power` meets its contract: each turn takes the lowest binary digit of what is left. Assumes nothing.
-use Prim.Native.Nat.{◌+◌, ◌*◌, ◌/◌, ◌%◌, ◌<◌}
-use native.Mathlib.Omega.{arith}
-use Rattle.permutation.proofs.FaureLaws.{faure_below}
-use Rattle.permutation.proofs.ReversalLaws.{Reversing, reversing_none, reversing_next, reversing_le, reversing_end}
+use Rattle.permutation.proofs.ReversalLaws.{Reversing}
 use Rattle.permutation.proofs.image_power.Given as goal
 
 abbrev pub invariant-loop-h : goal.invariant-loop-h
