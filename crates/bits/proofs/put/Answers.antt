@@ -19,7 +19,7 @@ pub loop-i-preserved : goal.loop-i-preserved
 loop-i-preserved c =
     let a = c.args in (
       omega arith,
-      c.put_bit.auto.0 ∙ c.loop-i.invariant.1,
+      c.put_bit.auto.out ∙ c.loop-i.invariant.1,
       rw c.put_bit.ensures
           (copied_next (bits_of a.out.now) a.at (to_bits a.width a.v) c.loop-i.i _ _
           (omega (arith, length_to_bits a.width a.v))

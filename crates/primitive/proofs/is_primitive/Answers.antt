@@ -10,6 +10,7 @@ use Rattle.binary.specs.Power.{power_of_x}
 use Rattle.binary.proofs.OrderLaws.{not_primitive_whole, not_primitive_early, primitive_by_powers}
 use Rattle.primitive.specs.Powers.{power_at}
 use Rattle.primitive.proofs.is_primitive.Goals as goal
+use Rattle.primitive.proofs.is_primitive.Goals.{then-q-i-gt0+else-powers-i-eq1, else-q-i-gt0}
 use Rattle.primitive.proofs.is_primitive.Goals.{After-powers_tested-powers}
 use Rattle.primitive.proofs.is_primitive.Invariants.{Passes}
 
@@ -48,7 +49,10 @@ loop-i-preserved c =
     let last : c.loop-i.i < 4 = omega (arith, c.loop-i-test.true) in (
       omega arith,
       below_more _ c.loop-i.i c.loop-i.invariant.1
-          (⊎_elim (λ w m e. omega (arith, early (goal.at.loop-i-preserved c).After-powers_tested-powers c.loop-i.i last, w.1.left)) (λ w m e. omega (arith, w.left)) c.if-q-i-gt0.branch),
+          (elim c.if-q-i-gt0.branch [
+            | then-q-i-gt0+else-powers-i-eq1 w ↦ λ m e. omega (arith, early (goal.at.loop-i-preserved c).After-powers_tested-powers c.loop-i.i last, w.if-powers-i-eq1.false)
+            | else-q-i-gt0 w ↦ λ m e. omega (arith, w.if-q-i-gt0.false)
+          ]),
     )
 
 pub returns : goal.returns

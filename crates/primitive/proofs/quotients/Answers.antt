@@ -1,4 +1,5 @@
 -- `primitive::quotients` meets its contract: at each degree the test of the four numbers computes to true. Assumes nothing.
+use native.Mathlib.Omega.{arith}
 use mathlib.Core.Path.{refl}
 use native.Mathlib.Nat.{le_antisymm}
 use lib.Arith.{le_of_le-suc-ne}
@@ -8,56 +9,49 @@ use Rattle.primitive.proofs.quotients.Goals as goal
 
 pub returns-in-2 : goal.returns-in-2
 unfolding each is_divided are_quotients
-returns-in-2 c = quotients_at 2 c.in-2.keys1 refl
+returns-in-2 c = quotients_at 2 c.in-2.is refl
 
 pub returns-in-3 : goal.returns-in-3
 unfolding each is_divided are_quotients
-returns-in-3 c = quotients_at 3 c.in-3.keys2 refl
+returns-in-3 c = quotients_at 3 c.in-3.is refl
 
 pub returns-in-4 : goal.returns-in-4
 unfolding each is_divided are_quotients
-returns-in-4 c = quotients_at 4 c.in-4.keys3 refl
+returns-in-4 c = quotients_at 4 c.in-4.is refl
 
 pub returns-in-5 : goal.returns-in-5
 unfolding each is_divided are_quotients
-returns-in-5 c = quotients_at 5 c.in-5.keys4 refl
+returns-in-5 c = quotients_at 5 c.in-5.is refl
 
 pub returns-in-6 : goal.returns-in-6
 unfolding each is_divided are_quotients
-returns-in-6 c = quotients_at 6 c.in-6.keys5 refl
+returns-in-6 c = quotients_at 6 c.in-6.is refl
 
 pub returns-in-7 : goal.returns-in-7
 unfolding each is_divided are_quotients
-returns-in-7 c = quotients_at 7 c.in-7.keys6 refl
+returns-in-7 c = quotients_at 7 c.in-7.is refl
 
 pub returns-in-8 : goal.returns-in-8
 unfolding each is_divided are_quotients
-returns-in-8 c = quotients_at 8 c.in-8.keys7 refl
+returns-in-8 c = quotients_at 8 c.in-8.is refl
 
 pub returns-in-9 : goal.returns-in-9
 unfolding each is_divided are_quotients
-returns-in-9 c = quotients_at 9 c.in-9.keys8 refl
+returns-in-9 c = quotients_at 9 c.in-9.is refl
 
 pub returns-in-10 : goal.returns-in-10
 unfolding each is_divided are_quotients
-returns-in-10 c = quotients_at 10 c.in-10.keys9 refl
+returns-in-10 c = quotients_at 10 c.in-10.is refl
 
 pub returns-in-11 : goal.returns-in-11
 unfolding each is_divided are_quotients
-returns-in-11 c = quotients_at 11 c.in-11.keys10 refl
+returns-in-11 c = quotients_at 11 c.in-11.is refl
 
 pub returns-in-12 : goal.returns-in-12
 unfolding each is_divided are_quotients
-returns-in-12 c = quotients_at 12 c.in-12.keys11 refl
+returns-in-12 c = quotients_at 12 c.in-12.is refl
 
 -- the only degree left is 1
 pub returns-in_default : goal.returns-in_default
 unfolding each is_divided are_quotients
-returns-in_default c =
-    let l = c.in_default.rest in
-    let to-9 = le_of_le-suc-ne (le_of_le-suc-ne (le_of_le-suc-ne c.requires.1 l.1) l.0.1) l.0.0.1 in
-    let m = l.0.0.0 in
-    let to-5 = le_of_le-suc-ne (le_of_le-suc-ne (le_of_le-suc-ne (le_of_le-suc-ne to-9 m.1) m.0.1) m.0.0.1) m.0.0.0.1 in
-    let n = m.0.0.0.0 in
-    let to-1 = le_of_le-suc-ne (le_of_le-suc-ne (le_of_le-suc-ne (le_of_le-suc-ne to-5 n.1) n.0.1) n.0.0.1) n.0.0.0.1 in
-    quotients_at 1 (le_antisymm to-1 c.requires.0) refl
+returns-in_default c = quotients_at 1 (omega arith) refl

@@ -4,6 +4,7 @@ use mathlib.Core.Path.{◌≡◌, refl, sym, ◌∙◌}
 use mathlib.Core.List.{List}
 use Prim.Native.Nat.{ℕ, ◌-◌, ◌*◌, ◌^◌, ◌≤◌}
 use native.Mathlib.Omega.{arith}
+use borrow.Author.Rules.{rules}
 use lib.ListN.{get_or, length, length-set}
 use lib.Seq.{ext_get_or}
 use Rattle.numbers.specs.Listed.{Begins}
@@ -18,7 +19,7 @@ loop-i-init c = (omega arith, refl, begins_none _ _)
 
 pub loop-i-preserved : goal.loop-i-preserved
 loop-i-preserved c =
-    let m = c.args.t1 in
+    let m = c.args.m in
     let l = c.loop-i in (
       omega arith,
       length-set l.v l.i _ ∙ l.invariant.1,
@@ -27,7 +28,7 @@ loop-i-preserved c =
 
 pub returns : goal.returns
 returns c =
-    let m = c.args.t1 in
+    let m = c.args.m in
     let l = c.loop-i in
-    let n : length m ≡ 32 = c.well_formed.0.1.0.1 in
+    let n : length m ≡ 32 = search rules in
     ext_get_or 0 l.v (scaled 0 m) (l.invariant.1 ∙ sym (scaled_length 0 m ∙ n)) (λ k h. l.invariant.2.at k (omega arith) ∙ sym (scaled_at m k))
