@@ -1,4 +1,4 @@
-// The calls of the host firmware, which is C: on numbers and byte slices, with no state. A slice is a pointer and a length.
+// The calls of the host firmware, which is C: on numbers and byte slices, with no state. The crate `hisowake_c` exports them.
 #![tactic(auto)]
 
 ghost use Rattle.std.specs.Prelude.{◌≡◌, true, ◌++◌, ◌*◌, ◌^◌, ◌<◌, ◌≤◌, length, drop};
@@ -24,8 +24,7 @@ fn put_point(out: &mut [u8], a: PlanRead, n: u64)
 }
 
 // Writes the point of any index to the front of `out`: 8 bytes an axis, most significant first. Answers 0 or the refusal's number.
-#[unsafe(no_mangle)]
-pub extern "C" fn hisowake_point(plan: &[u8], index: u64, out: &mut [u8]) -> u64
+pub fn hisowake_point(plan: &[u8], index: u64, out: &mut [u8]) -> u64
     ensures { (result ≡ point_code plan.now index out.old) × (out.new ≡ point_bytes plan.now index out.old) }
 {
     let a = reader::read_plan(plan);
@@ -79,8 +78,7 @@ fn put_count(out: &mut [u8], a: PlanRead, start: u64, count: u64, window: &[u8])
 
 // Writes S, how many points of the run are inside the window, and the bound of demand 3 to the front of `out`: 8 bytes each, most significant first.
 // The window has u and then q for each axis, 4 bytes each, likewise. Answers 0 or the refusal's number.
-#[unsafe(no_mangle)]
-pub extern "C" fn hisowake_window_count(
+pub fn hisowake_window_count(
     plan: &[u8],
     start: u64,
     count: u64,
