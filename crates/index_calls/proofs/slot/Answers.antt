@@ -55,7 +55,7 @@ fraction : (c : After-denominator-d) →
     (c.numerator-x.result ≡ numerator_of (plan_in a.s) a.n (a.axis - 1))
     × (c.denominator-d.result ≡ denominator_of (plan_in a.s) (a.axis - 1))
     × (numerator_of (plan_in a.s) a.n (a.axis - 1) < denominator_of (plan_in a.s) (a.axis - 1)) × (denominator_of (plan_in a.s) (a.axis - 1) < 2 ^ 40)
-fraction c = let range : let a = c.args in (1 ≤ a.axis) × (a.axis ≤ a.s.axes) × (1 ≤ a.slots) × (a.slots ≤ 2 ^ 24) = slots_range _ _ _ (takes c) in
+fraction c = let range : let a = c.args in (1 ≤ a.axis) × (a.axis ≤ a.s.axes) × (1 ≤ a.slots) × (a.slots ≤ 2 ^ 24) = slots_range _ _ _ (known_of _ _ c.has_slots.ensures c.if-not-has_slots.false) in
     let known : genuine c.args.s ≡ true = known_of _ _ c.is_genuine.ensures c.if-not-is_genuine.false in
     let k = known in
     let a = c.args in
