@@ -16,23 +16,10 @@ use Rattle.day_set.specs.DaySet.{day_of, day_blank}
 use Rattle.day_set.specs.Calls.{day_moved}
 use Rattle.day_set.specs.declared.DaySet.{DaySet}
 use Rattle.day_set.proofs.CaseLaws.{made_by, make_zeros}
-use Rattle.day_calls.proofs.make_day_set.Statement.{statement}
-use Rattle.day_calls.proofs.make_day_set.Tie as tie
+use Rattle.day_calls.proofs.make_day_set.Goals as goal
 
-least_requires : tie.Need-least-requires
-least_requires c κs = search rules
-
-array_share_prefix_zeros : tie.Need-array-share-prefix-zeros
-array_share_prefix_zeros c = search rules
-
-slice_aggregate_open : tie.Need-slice-aggregate-open
-slice_aggregate_open c = sym (length-take-le _ _ (omega arith))
-
-open_requires : tie.Need-open-requires
-open_requires c κs = search rules
-
-blank_day_set_requires : tie.Need-blank-day-set-requires
-blank_day_set_requires c κs = search rules
+pub slice_bounds-open-end : goal.slice_bounds-open-end
+slice_bounds-open-end c = sym (length-take-le _ _ (omega arith))
 
 -- a genuine state has six axes at most: one zero is lent for each
 all : (s : Sampler) (axes : ℕ) → (axes ≤ s.axes) × (axes ≤ 6) × ((x : ℕ) → x < s.axes → x < 6 → x < axes) → genuine s ≡ true → axes ≡ s.axes
@@ -49,26 +36,12 @@ refused a f d e = ap (day_moved a.code) (e ∙ go a.code f)
 done : (a : Moved) → a.code ≡ 0 → day_moved 0 (day_of a.state) ≡ made_by a
 done a z = rw z refl
 
-returns : tie.Need-returns
+pub returns-then-r-ne0 : goal.returns-then-r-ne0
+returns-then-r-ne0 c =
+    refused c.open-r.result (λ z. omega arith) _ c.blank_day_set.ensures
+    ∙ ap made_by c.open-r.ensures ∙ sym (make_zeros _ _ _ (all _ _ c.least-axes.ensures))
+
+pub returns : goal.returns
 returns c =
-    let o = c.before.before.before in
-    refused o.«open».result (λ z. omega arith) _ c.blank-day-set.ensures
-    ∙ ap made_by o.«open».ensures ∙ sym (make_zeros _ _ _ (all _ _ o.before.before.least.ensures))
-
-returns_2 : tie.Need-returns-2
-returns_2 c =
-    let o = c.before.before.before in
-    done o.«open».result (omega arith)
-    ∙ ap made_by o.«open».ensures ∙ sym (make_zeros _ _ _ (all _ _ o.before.before.least.ensures))
-
-pub make_day_set_spec : {M : Type 1} → statement M
-make_day_set_spec =
-    tie.close
-    (tie.spec
-    least_requires
-    array_share_prefix_zeros
-    slice_aggregate_open
-    open_requires
-    blank_day_set_requires
-    returns
-    returns_2)
+    done c.open-r.result (omega arith)
+    ∙ ap made_by c.open-r.ensures ∙ sym (make_zeros _ _ _ (all _ _ c.least-axes.ensures))
