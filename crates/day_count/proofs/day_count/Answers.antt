@@ -29,27 +29,21 @@ use Rattle.day_count.proofs.day_count.Goals.{After-cut_limit-first, After-is_gen
 pub returns-then-not-from_zero : goal.returns-then-not-from_zero
 returns-then-not-from_zero c = c.refused.ensures ∙ sym (day_count_foreign _ _ (foreign_start _ (foreign_of _ _ c.from_zero.ensures c.if-not-from_zero.true)))
 
-abbrev start : (c : After-is_genuine) → tie.Start
-start c = c.before.before.before.before.before.before.before
+by : (c : After-is_genuine) → let d = c.args.d in genuine_day d ≡ genuine d.run
+by c = by_run c.args.d (known_of _ _ c.from_zero.ensures c.if-not-from_zero.false)
 
-by : (c : After-is_genuine) → let d = (start c).args.d in genuine_day d ≡ genuine d.run
-by c = by_run (start c).args.d (known_of _ _ c.from_zero.ensures c.if-not-from_zero.false)
-
- let start : tie.Start = c.before.before.before.before.before.before.before in
-    foreign : (c : Then-not-is_genuine) → genuine_day (start).args.d ≡ false
-foreign c = let by : let d = (start c).args.d in genuine_day d ≡ genuine d.run = let start : tie.Start = c.before.before.before.before.before.before.before in by_run (start).args.d (known_of _ _ c.from_zero.ensures c.if-not-from_zero.false) in
+foreign : (c : Then-not-is_genuine) → genuine_day c.args.d ≡ false
+foreign c = let by : let d = c.args.d in genuine_day d ≡ genuine d.run = by_run c.args.d (known_of _ _ c.from_zero.ensures c.if-not-from_zero.false) in
     by ∙ foreign_of _ _ c.is_genuine.ensures c.if-not-is_genuine.true
 
- let start : tie.Start = c.before.before.before.before.before.before.before in
-    known : (c : Else-not-is_genuine) → genuine_day (start).args.d ≡ true
-known c = let by : let d = (start c).args.d in genuine_day d ≡ genuine d.run = let start : tie.Start = c.before.before.before.before.before.before.before in by_run (start).args.d (known_of _ _ c.from_zero.ensures c.if-not-from_zero.false) in
+known : (c : Else-not-is_genuine) → genuine_day c.args.d ≡ true
+known c = let by : let d = c.args.d in genuine_day d ≡ genuine d.run = by_run c.args.d (known_of _ _ c.from_zero.ensures c.if-not-from_zero.false) in
     by ∙ known_of _ _ c.is_genuine.ensures c.if-not-is_genuine.false
 
 pub returns-then-not-is_genuine : goal.returns-then-not-is_genuine
 returns-then-not-is_genuine c = c.refused-then-not-is_genuine.ensures ∙ sym (day_count_foreign _ _ (foreign (goal.at.returns-then-not-is_genuine c).Then-not-is_genuine))
 
- let start : tie.Start = c.before.before.before.before.before.before.before in
-    few : (c : Else-not-is_genuine) → (start).args.d.run.axes ≤ 6
+few : (c : Else-not-is_genuine) → c.args.d.run.axes ≤ 6
 few c = (axes_few _ (day_is _ (known c)).1).1
 
 pub overflow_add-axes : goal.overflow_add-axes
@@ -58,21 +52,15 @@ overflow_add-axes c = omega (arith, few c)
 pub is_window-requires : goal.is_window-requires
 is_window-requires c = omega (arith, few c)
 
- let start : tie.Start = c.before.before.before.before.before.before.before in
-    wide : (c : After-is_window) → let a = (start).args in c.is_window.result ≡ is_window a.w.now (day_width a.d)
-wide c = let start : tie.Start = c.before.before.before.before.before.before.before in
-    let a = (start).args in c.is_window.ensures ∙ ap (is_window a.w.now) (add-one a.d.run.axes)
+wide : (c : After-is_window) → let a = c.args in c.is_window.result ≡ is_window a.w.now (day_width a.d)
+wide c = let a = c.args in c.is_window.ensures ∙ ap (is_window a.w.now) (add-one a.d.run.axes)
 
- let start : tie.Start = c.before.before.before.before.before.before.before in
-    off : (c : Then-not-is_window) → let a = (start).args in is_window a.w.now (day_width a.d) ≡ false
-off c = let wide : let a = (start).args in c.is_window.result ≡ is_window a.w.now (day_width a.d) = let start : tie.Start = c.before.before.before.before.before.before.before in
-    let a = (start).args in c.is_window.ensures ∙ ap (is_window a.w.now) (add-one a.d.run.axes) in
+off : (c : Then-not-is_window) → let a = c.args in is_window a.w.now (day_width a.d) ≡ false
+off c = let wide : let a = c.args in c.is_window.result ≡ is_window a.w.now (day_width a.d) = let a = c.args in c.is_window.ensures ∙ ap (is_window a.w.now) (add-one a.d.run.axes) in
     foreign_of _ _ (wide) c.if-not-is_window.true
 
- let start : tie.Start = c.before.before.before.before.before.before.before in
-    fits : (c : Else-not-is_window) → let a = (start).args in is_window a.w.now (day_width a.d) ≡ true
-fits c = let wide : let a = (start).args in c.is_window.result ≡ is_window a.w.now (day_width a.d) = let start : tie.Start = c.before.before.before.before.before.before.before in
-    let a = (start).args in c.is_window.ensures ∙ ap (is_window a.w.now) (add-one a.d.run.axes) in
+fits : (c : Else-not-is_window) → let a = c.args in is_window a.w.now (day_width a.d) ≡ true
+fits c = let wide : let a = c.args in c.is_window.result ≡ is_window a.w.now (day_width a.d) = let a = c.args in c.is_window.ensures ∙ ap (is_window a.w.now) (add-one a.d.run.axes) in
     known_of _ _ (wide) c.if-not-is_window.false
 
 pub returns-then-not-is_window : goal.returns-then-not-is_window
@@ -85,7 +73,7 @@ leading : (c : Else-not-is_window) → let l = cut_at c.args.w.now 0 in (1 ≤ l
 leading c = range_at _ _ (fits c) 0 (omega arith)
 
 whole : (c : Else-not-is_window) → genuine c.args.d.run ≡ true
-whole c = let known : genuine_day (start).args.d ≡ true = let by : let d = (start c).args.d in genuine_day d ≡ genuine d.run = let start : tie.Start = c.before.before.before.before.before.before.before in by_run (start).args.d (known_of _ _ c.from_zero.ensures c.if-not-from_zero.false) in
+whole c = let known : genuine_day c.args.d ≡ true = let by : let d = c.args.d in genuine_day d ≡ genuine d.run = by_run c.args.d (known_of _ _ c.from_zero.ensures c.if-not-from_zero.false) in
     by ∙ known_of _ _ c.is_genuine.ensures c.if-not-is_genuine.false in
     (day_is _ (known)).1
 
@@ -102,11 +90,10 @@ pub cut_limit-first-requires : goal.cut_limit-first-requires
 cut_limit-first-requires c = omega (arith, leading (goal.at.cut_limit-first-requires c).Else-not-is_window, small (goal.at.cut_limit-first-requires c).Else-not-is_window)
 
 first_small : (c : After-cut_limit-first) → c.cut_limit-first.result ≤ 2 ^ 32
-first_small c = let small : day_size c.args.d ≤ 2 ^ 32 = let whole : genuine c.args.d.run ≡ true = let known : genuine_day (start).args.d ≡ true = let by : let d = (start c).args.d in genuine_day d ≡ genuine d.run = let start : tie.Start = c.before.before.before.before.before.before.before in by_run (start).args.d (known_of _ _ c.from_zero.ensures c.if-not-from_zero.false) in
+first_small c = let small : day_size c.args.d ≤ 2 ^ 32 = let whole : genuine c.args.d.run ≡ true = let known : genuine_day c.args.d ≡ true = let by : let d = c.args.d in genuine_day d ≡ genuine d.run = by_run c.args.d (known_of _ _ c.from_zero.ensures c.if-not-from_zero.false) in
     by ∙ known_of _ _ c.is_genuine.ensures c.if-not-is_genuine.false in
     (day_is _ (known)).1 in omega (arith, (known_run _ (whole)).0.at 0) in
-    let leading : let l = cut_at c.args.w.now 0 in (1 ≤ l.q) × (l.q ≤ 2 ^ 24) × (l.u ≤ l.q) = let fits : let a = (start).args in is_window a.w.now (day_width a.d) ≡ true = let wide : let a = (start).args in c.is_window.result ≡ is_window a.w.now (day_width a.d) = let start : tie.Start = c.before.before.before.before.before.before.before in
-    let a = (start).args in c.is_window.ensures ∙ ap (is_window a.w.now) (add-one a.d.run.axes) in
+    let leading : let l = cut_at c.args.w.now 0 in (1 ≤ l.q) × (l.q ≤ 2 ^ 24) × (l.u ≤ l.q) = let fits : let a = c.args in is_window a.w.now (day_width a.d) ≡ true = let wide : let a = c.args in c.is_window.result ≡ is_window a.w.now (day_width a.d) = let a = c.args in c.is_window.ensures ∙ ap (is_window a.w.now) (add-one a.d.run.axes) in
     known_of _ _ (wide) c.if-not-is_window.false in range_at _ _ (fits) 0 (omega arith) in
     let l = leading in
     omega (arith, c.cut_limit-first.ensures, limit_within _ _ (day_size c.args.d) l.0 l.2, small)
