@@ -36,7 +36,8 @@ pub returns-then-a-ne0 : goal.returns-then-a-ne0
 unfolding text_of
 returns-then-a-ne0 c =
     let input = c.args.input.now in
-    whole input _ (read_refused (take 72 input) c.read_plan-a.result (answer (goal.at.returns-then-a-ne0 c).After-read_plan-a) (λ e. omega arith)) c.put_head.ensures.0
+    let w = whole input _ (read_refused (take 72 input) c.read_plan-a.result (answer (goal.at.returns-then-a-ne0 c).After-read_plan-a) (λ e. omega arith)) c.put_head.ensures.0 in
+    record { value = w.0; upper_bound = w.1 }
 
 pub put_accepted-requires : goal.put_accepted-requires
 put_accepted-requires c =
@@ -45,4 +46,5 @@ put_accepted-requires c =
 pub returns : goal.returns
 returns c =
     let input = c.args.input.now in
-    whole input _ (read_plan_is (take 72 input) c.read_plan-a.result (answer (goal.at.returns c).After-read_plan-a) (bytes (goal.at.returns c).After-read_plan-a) (omega arith)) c.put_accepted.ensures
+    let w = whole input _ (read_plan_is (take 72 input) c.read_plan-a.result (answer (goal.at.returns c).After-read_plan-a) (bytes (goal.at.returns c).After-read_plan-a) (omega arith)) c.put_accepted.ensures in
+    record { value = w.0; upper_bound = w.1 }

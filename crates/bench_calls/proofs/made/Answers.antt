@@ -1,0 +1,14 @@
+-- A making from the state of the plan. Assumes nothing.
+use borrow.Author.Rules.{rules}
+use mathlib.Core.Path.{ap, ◌∙◌}
+use Rattle.state.specs.declared.Sampler.{Sampler}
+use Rattle.day_set.specs.Calls.{make_spec}
+use Rattle.day_set.specs.declared.DayMoved.{DayMoved}
+use Rattle.bench_calls.specs.Rounds.{made_set}
+use Rattle.bench_calls.proofs.made.Goals as goal
+
+pub returns : goal.returns
+unfolding made_set
+returns c =
+    let a = c.args in
+    ap (λ ((goal.at.returns c).After-make_day_set-m : DayMoved). c.set) c.make_day_set-m.ensures ∙ ap (λ (s : Sampler). (make_spec s a.size).set) c.state_of.ensures
