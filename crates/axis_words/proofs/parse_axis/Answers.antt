@@ -1,5 +1,5 @@
 -- 0 is one axis, and any other word is given or none. Assumes nothing.
-use Rattle.std.proofs.Common.{◌≡◌, sym, ◌∙◌, true≢false, arith, rules}
+use Rattle.std.proofs.Common.{◌≡◌, sym, ◌∙◌, true≢false, arith}
 use Rattle.words.specs.Word.{leading}
 use Rattle.axis_words.specs.Spelled.{colon, is_not}
 use Rattle.axis_words.proofs.PartLaws.{kept_none, not_given, no_colon, zero_axis, other_axis}
