@@ -1,5 +1,4 @@
 -- A number of 64 bits has at most 20 decimal digits. Assumes nothing.
-use borrow.Author.Rules.{rules}
 use native.Mathlib.Omega.{arith}
 use Rattle.numbers.proofs.DigitLaws.{digit_count_le_iff}
 use Rattle.fault_text.proofs.digit_places.Goals as goal
