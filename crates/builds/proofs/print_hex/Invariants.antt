@@ -1,5 +1,4 @@
 -- The loop passes over the bytes. Assumes nothing.
-use borrow.Author.Rules.{rules}
 use Prim.Native.Nat.{◌-◌, ◌≤◌}
 use lib.ListN.{length}
 use Rattle.builds.proofs.print_hex.Given as goal

@@ -14,7 +14,7 @@ returns-then-p-ne0 c =
 
 pub returns-then-found-ne0 : goal.returns-then-found-ne0
 returns-then-found-ne0 c =
-    let said : c.parse-p.result.fault.code ≡ 0 = omega (arith, c.if-p-ne0.false) in
+    let said : c.parse-p.result.fault.code ≡ 0 = omega arith in
     let wrong : c.check-found.result.code ≡ 0 → ⊥ = λ z. omega arith in
     let a = c.args in
     let o : Outcome a.line.now a.from a.out.now c.check-found.result 0 a.out.now = Outcome.unsound _ _ _ _ _ (c.parse-p.ensures.spelled said) c.check-found.ensures wrong c.parse-p.ensures.few c.parse-p.ensures.size in
@@ -22,12 +22,12 @@ returns-then-found-ne0 c =
 
 pub write_plan-w-requires : goal.write_plan-w-requires
 write_plan-w-requires c =
-    let sound : c.check-found.result.code ≡ 0 = omega (arith, c.if-found-ne0.false) in
+    let sound : c.check-found.result.code ≡ 0 = omega arith in
     writable c.parse-p.ensures c.check-found.ensures sound
 
 pub returns : goal.returns
 returns c =
-    let said : c.parse-p.result.fault.code ≡ 0 = omega (arith, c.if-p-ne0.false) in
-    let sound : c.check-found.result.code ≡ 0 = omega (arith, c.if-found-ne0.false) in
+    let said : c.parse-p.result.fault.code ≡ 0 = omega arith in
+    let sound : c.check-found.result.code ≡ 0 = omega arith in
     let o = written_out c.parse-p.ensures c.check-found.ensures sound _ _ _ _ said c.write_plan-w.ensures in
     rw c.report-fault.ensures record { outcome = o; len_in_bounds = (with_length o).1 }

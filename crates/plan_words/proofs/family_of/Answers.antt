@@ -6,29 +6,17 @@ use Rattle.plan_words.specs.Says.{family_words}
 use Rattle.plan_words.proofs.ParseLaws.{named, no_family}
 use Rattle.plan_words.proofs.family_of.Goals as goal
 
--- ?? slice_aggregate_same : tie.Need-slice-aggregate-same
--- slice_aggregate_same c = search rules
-
 pub returns-then-same : goal.returns-then-same
 unfolding family_words
 returns-then-same c = named _ _ (omega arith) (c.same.ensures.0 c.if-same.true)
-
--- ?? slice_aggregate_same_2 : tie.Need-slice-aggregate-same-2
--- slice_aggregate_same_2 c = search rules
 
 pub returns-then-same-2 : goal.returns-then-same-2
 unfolding family_words
 returns-then-same-2 c = named _ _ (omega arith) (c.same-2.ensures.0 c.if-same-2.true)
 
--- ?? slice_aggregate_same_3 : tie.Need-slice-aggregate-same-3
--- slice_aggregate_same_3 c = search rules
-
 pub returns-then-same-3 : goal.returns-then-same-3
 unfolding family_words
 returns-then-same-3 c = named _ _ (omega arith) (c.same-3.ensures.0 c.if-same-3.true)
-
--- ?? slice_aggregate_same_4 : tie.Need-slice-aggregate-same-4
--- slice_aggregate_same_4 c = search rules
 
 pub returns-then-same-4 : goal.returns-then-same-4
 unfolding family_words
