@@ -1,7 +1,6 @@
 -- The commas so far, with those from the byte at hand on, are all. Assumes nothing.
-use Rattle.std.proofs.Common.{◌≡◌, ◌+◌, ◌-◌, ◌≤◌, true, false, length, get_or, drop, ⊎_elim, arith, rules, eq-eqb, ne_eqb}
+use Rattle.std.proofs.Common.{◌≡◌, ◌+◌, ◌-◌, ◌≤◌, length, drop}
 use Rattle.axis_words.specs.Spelled.{commas_in}
-use Rattle.axis_words.proofs.PartLaws.{comma_more, comma_end}
 use Rattle.axis_words.proofs.comma_count.Given as goal
 
 abbrev pub invariant-loop-i : goal.invariant-loop-i

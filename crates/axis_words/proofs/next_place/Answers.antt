@@ -1,5 +1,5 @@
 -- Past the text's end there is nothing. Assumes nothing.
-use Rattle.std.proofs.Common.{arith, rules}
+use Rattle.std.proofs.Common.{arith}
 use Rattle.axis_words.proofs.PartLaws.{nothing_past}
 use Rattle.axis_words.proofs.next_place.Goals as goal
 

@@ -1,12 +1,9 @@
 -- 0 is one axis, and any other word is given or none. Assumes nothing.
-use Rattle.std.proofs.Common.{◌≡◌, sym, ◌∙◌, true≢false, arith, rules}
+use Rattle.std.proofs.Common.{◌≡◌, sym, ◌∙◌, true≢false, arith}
 use Rattle.words.specs.Word.{leading}
 use Rattle.axis_words.specs.Spelled.{colon, is_not}
 use Rattle.axis_words.proofs.PartLaws.{kept_none, not_given, no_colon, zero_axis, other_axis}
 use Rattle.axis_words.proofs.parse_axis.Goals as goal
-
--- ?? slice_aggregate_same : tie.Need-slice-aggregate-same
--- slice_aggregate_same c = search rules
 
 pub returns-then-same : goal.returns-then-same
 returns-then-same c = (kept_none _ _, zero_axis _ _ _ (c.same.ensures.0 c.if-same.true))

@@ -1,7 +1,6 @@
 -- The parts so far are numbers, in their places. Assumes nothing.
-use Rattle.std.proofs.Common.{◌-◌, ◌≤◌, arith, rules}
-use borrow.Author.Tests.{not-true, not-false}
-use Rattle.axis_words.proofs.PartLaws.{MsSoFar, so_far_none, so_far_bad, so_far_next, so_far_all}
+use Rattle.std.proofs.Common.{◌-◌, ◌≤◌}
+use Rattle.axis_words.proofs.PartLaws.{MsSoFar}
 use Rattle.axis_words.proofs.parse_ms.Given as goal
 
 abbrev pub invariant-loop-k : goal.invariant-loop-k

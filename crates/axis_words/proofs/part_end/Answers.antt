@@ -1,6 +1,5 @@
 -- The first place is the first from the byte at hand on. Assumes nothing.
-use Rattle.std.proofs.Common.{◌≡◌, ◌+◌, ◌-◌, ◌≤◌, length, drop, arith, rules}
-use Rattle.words.specs.Word.{leading}
+use Rattle.std.proofs.Common.{arith}
 use Rattle.words.proofs.WordLaws.{leading_more, leading_stop, leading_end}
 use Rattle.axis_words.specs.Spelled.{is_not}
 use Rattle.axis_words.proofs.PartLaws.{is_stop, is_other}
