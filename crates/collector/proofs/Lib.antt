@@ -1,4 +1,2 @@
-pub mod Again
-pub mod Shown
 pub mod LoopLaws
 pub mod EndLaws

@@ -1,12 +1,12 @@
 -- How the main loop goes on and stops: a step that answers 0 leaves one point fewer, and what is left is served from there. Assumes nothing.
 use mathlib.Core.Path.{◌≡◌, refl, sym, ◌∙◌}
-use mathlib.Core.Bool.{Bool, true, false, not}
+use mathlib.Core.Bool.{true, false}
 use mathlib.Core.Logic.{⊎_elim}
 use mathlib.Core.List.{List}
 use Prim.Native.Nat.{ℕ, zero, suc, ◌<◌}
 use native.Mathlib.Omega.{arith}
 use borrow.Author.Tests.{eq-eqb, ne_eqb}
-use lib.Dec.{T, eqb, eqb→eq, eqb_refl, T_not}
+use lib.Dec.{eqb}
 use Rattle.plan.specs.Order.{first_due}
 use Rattle.numbers.proofs.Cases.{eq_or_ne}
 use Rattle.state.specs.State.{made, genuine}
@@ -64,16 +64,3 @@ ends_within (suc k) s words e z =
 pub ends : (s : Sampler) (words : List ℕ) → (served s words).code ≡ 0 → ⊥
 unfolding served
 ends s words = ends_within (left s) s words refl
-
--- ---- the test of the number
-
-module _ (r n : ℕ) where
-  pub other_than : T (not (eqb r n)) → r ≡ n → ⊥
-  other_than t e = T_not (eqb r n) t (rw e (eqb_refl n))
-
-  pub is_number : T (not (not (eqb r n))) → r ≡ n
-  is_number t = eqb→eq r n (twice (eqb r n) t)
-    where
-      twice : (b : Bool) → T (not (not b)) → T b
-      twice true t = tt
-      twice false t = t
