@@ -11,4 +11,4 @@ pub returns : goal.returns
 unfolding made_set
 returns c =
     let a = c.args in
-    ap (λ ((goal.at.returns c).After-make_day_set-m : DayMoved). c.set) c.make_day_set-m.ensures ∙ ap (λ (s : Sampler). (make_spec s a.size).set) c.state_of.ensures
+    ap (λ (m : DayMoved). m.set) c.make_day_set-m.ensures ∙ ap (λ (s : Sampler). (make_spec s a.size).set) c.state_of.ensures

@@ -12,4 +12,4 @@ pub returns : goal.returns
 unfolding opened_state
 returns c =
     let a = c.args in
-    ap (λ (m : Moved). m.state) (goal.at.returns c).After-open-o.«open».ensures ∙ ap (λ (s : Sampler). (open_spec s (run_of a.starts.now a.count)).state) c.state_of.ensures
+    ap (λ (m : Moved). m.state) c.open-o.ensures ∙ ap (λ (s : Sampler). (open_spec s (run_of a.starts.now a.count)).state) c.state_of.ensures

@@ -21,7 +21,7 @@ loop-i-init c = reading_none _ _ _ refl
 pub returns-in-NoNumber : goal.returns-in-NoNumber
 returns-in-NoNumber c =
     let a = c.args in
-    let e = sym (read_here (goal.at.returns-in-NoNumber c).After-decimal-number) ∙ c.enum_told-1.given.1 in
+    let e = sym (read_here (goal.at.returns-in-NoNumber c).After-decimal-number) ∙ c.in-NoNumber.is in
     record {
       is = sym (numbers_same a.rest.now (length a.out.now) (omega arith) ∙ reading_none_here _ _ c.loop-i.invariant (omega arith) e);
       values = λ h. absurd (not_number_unread _ h);
@@ -30,7 +30,7 @@ returns-in-NoNumber c =
 pub returns-in-TooLarge : goal.returns-in-TooLarge
 returns-in-TooLarge c =
     let a = c.args in
-    let e = sym (read_here (goal.at.returns-in-TooLarge c).After-decimal-number) ∙ c.in-TooLarge.given.1 in
+    let e = sym (read_here (goal.at.returns-in-TooLarge c).After-decimal-number) ∙ c.in-TooLarge.is in
     record {
       is = sym (numbers_same a.rest.now (length a.out.now) (omega arith) ∙ reading_large_here _ _ c.loop-i.invariant (omega arith) e);
       values = λ h. absurd (large_unread _ h);
@@ -39,7 +39,7 @@ returns-in-TooLarge c =
 pub loop-i-preserved : goal.loop-i-preserved
 loop-i-preserved c =
     let f = c.find-w.ensures in
-    let e = sym (read_here (goal.at.loop-i-preserved c).After-decimal-number) ∙ c.decimal-number.given.1 in
+    let e = sym (read_here (goal.at.loop-i-preserved c).After-decimal-number) ∙ c.in-Value.is in
     reading_next _ _ c.loop-i.invariant (omega arith) _ _ f.is e f.high
 
 pub returns : goal.returns
