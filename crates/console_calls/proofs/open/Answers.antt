@@ -1,0 +1,10 @@
+-- The console has the state of the call's answer. Assumes nothing.
+use mathlib.Core.Path.{ap, ◌∙◌}
+use Rattle.calls.specs.declared.Moved.{Moved}
+use borrow.Author.Rules.{rules}
+use Rattle.console_calls.proofs.open.Goals as goal
+
+pub returns : goal.returns
+returns c =
+    let e = c.open-m.ensures in
+    record { state = c.with_state.ensures.state ∙ ap (λ (m : Moved). m.state) e; day = c.with_state.ensures.day }
