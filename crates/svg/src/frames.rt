@@ -1,7 +1,7 @@
 // The windows as frames: rectangles from 0 to the cuts on the two axes drawn.
 ghost use Rattle.std.specs.Prelude.{◌<◌, ◌≤◌, length};
 
-use crate::points::{place, word};
+use crate::drawn::{place, word};
 use crate::{Drawing, place_of};
 use lines::{Lines, put};
 

@@ -2,9 +2,9 @@
 // wide and high, and the second axis goes up.
 #![tactic(auto)]
 
+mod drawn;
 mod frames;
 mod names;
-mod points;
 
 ghost use Rattle.std.specs.Prelude.{◌≤◌, length};
 
@@ -77,6 +77,6 @@ pub fn draw(l: Lines, out: &mut [u8], d: Drawing, cuts: &[u64], names: &[u8]) ->
     requires { (d.windows ≤ 32) × (448 ≤ length cuts.now) × (1024 ≤ length names.now) }
 {
     let ruled = ground(l, out, d);
-    let pointed = points::all(ruled, out, d);
+    let pointed = drawn::all(ruled, out, d);
     frames::all(pointed, out, d, cuts, names)
 }

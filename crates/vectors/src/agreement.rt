@@ -1,7 +1,7 @@
 // Whether what is printed agrees with what the library computes: by jump, and by a step from the index before.
 ghost use Rattle.std.specs.Prelude.{◌≡◌, true, ◌*◌, ◌≤◌, length};
 
-use crate::tables::GIVEN;
+use crate::printed::GIVEN;
 
 // What a table prints: points of a Halton family; or the m's, the direction numbers or the points of a Sobol axis.
 #[derive(Clone, Copy)]

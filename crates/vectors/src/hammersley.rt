@@ -2,7 +2,7 @@
 ghost use Rattle.std.specs.Prelude.{◌≤◌};
 
 use crate::agreement::same_fraction;
-use crate::tables::HAMMERSLEY;
+use crate::printed::HAMMERSLEY;
 use sampler::DaySet;
 
 // Whether a point is what a row prints: n over 10, and the fraction of base 2.

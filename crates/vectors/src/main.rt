@@ -3,7 +3,7 @@
 
 mod agreement;
 mod hammersley;
-mod tables;
+mod printed;
 
 use agreement::Printed;
 
@@ -38,37 +38,37 @@ fn kocis_whiten() {
         b"001 base 31 Kocis-Whiten, images 0 to 30",
         3,
         31,
-        &tables::KOCIS_THIRTY_ONE,
+        &printed::KOCIS_THIRTY_ONE,
     );
     report_images(
         b"001 base 10 Kocis-Whiten, images 0 to 9",
         3,
         10,
-        &tables::KOCIS_TEN,
+        &printed::KOCIS_TEN,
     );
     report(
         b"001 base 7 Kocis-Whiten, terms 1 to 6",
         kocis,
         [7, 0, 0],
-        &tables::KOCIS_SEVEN,
+        &printed::KOCIS_SEVEN,
     );
     report(
         b"001 bases 2 3 5 Kocis-Whiten, term 3",
         kocis,
         [2, 3, 5],
-        &tables::KOCIS_FIRST_THREE,
+        &printed::KOCIS_FIRST_THREE,
     );
     report(
         b"001 bases 7 11 13 Kocis-Whiten, term 3",
         kocis,
         [7, 11, 13],
-        &tables::KOCIS_NEXT_THREE,
+        &printed::KOCIS_NEXT_THREE,
     );
     report(
         b"001 base 17 Kocis-Whiten, term 3",
         kocis,
         [17, 0, 0],
-        &tables::KOCIS_LAST,
+        &printed::KOCIS_LAST,
     );
 }
 
@@ -80,31 +80,31 @@ fn document_001() {
         b"001 base 2, terms 1 to 10",
         plain,
         [2, 0, 0],
-        &tables::FIRST_TEN,
+        &printed::FIRST_TEN,
     );
     report(
         b"001 base 2, terms 0 to 15",
         plain,
         [2, 0, 0],
-        &tables::FROM_ZERO,
+        &printed::FROM_ZERO,
     );
     report(
         b"001 bases 2 3 5, terms 1 to 6",
         plain,
         [2, 3, 5],
-        &tables::HALTON_VECTORS,
+        &printed::HALTON_VECTORS,
     );
     report(
         b"001 bases 2 3 5 permuted, terms 1 to 11",
         permuted,
         [2, 3, 5],
-        &tables::SCRAMBLED_VECTORS,
+        &printed::SCRAMBLED_VECTORS,
     );
     report(
         b"001 base 7 permuted, terms 1 to 6",
         permuted,
         [7, 0, 0],
-        &tables::SCRAMBLED_SEVEN,
+        &printed::SCRAMBLED_SEVEN,
     );
 }
 
@@ -115,25 +115,25 @@ fn document_002() {
         b"002 base 3, terms 0 to 17",
         plain,
         [3, 0, 0],
-        &tables::BASE_THREE,
+        &printed::BASE_THREE,
     );
     report(
         b"002 bases 2 3, terms 0 to 9",
         plain,
         [2, 3, 0],
-        &tables::TWO_DIMENSIONS,
+        &printed::TWO_DIMENSIONS,
     );
     report(
         b"002 base 2, carry from 183 to 184",
         plain,
         [2, 0, 0],
-        &tables::CARRY_BASE_TWO,
+        &printed::CARRY_BASE_TWO,
     );
     report(
         b"002 base 3, carry from 1718 to 1719",
         plain,
         [3, 0, 0],
-        &tables::CARRY_BASE_THREE,
+        &printed::CARRY_BASE_THREE,
     );
     put_line(
         b"002 Hammersley set of 10, base 2",
@@ -144,18 +144,18 @@ fn document_002() {
 
 // The groups of document 003: a Sobol axis of the polynomial x^3 + x + 1.
 fn document_003() {
-    report(b"003 m_4 to m_6", Printed::SobolM, [11, 0, 0], &tables::M);
+    report(b"003 m_4 to m_6", Printed::SobolM, [11, 0, 0], &printed::M);
     report(
         b"003 v_1 to v_4",
         Printed::SobolDirection,
         [11, 0, 0],
-        &tables::DIRECTIONS,
+        &printed::DIRECTIONS,
     );
     report(
         b"003 points 0 to 3",
         Printed::SobolPoint,
         [11, 0, 0],
-        &tables::POINTS,
+        &printed::POINTS,
     );
 }
 

@@ -1,6 +1,6 @@
 -- The buffer keeps its length, and the points that are left fall. Assumes nothing.
 use Rattle.std.proofs.Common.{◌≡◌, ◌-◌, ◌≤◌, length, rules}
-use Rattle.svg.proofs.points.points.Given as goal
+use Rattle.svg.proofs.drawn.points.Given as goal
 
 abbrev pub invariant-loop-k : goal.invariant-loop-k
 invariant-loop-k l = (length l.out ≡ length l.initial.out) × (l.k ≤ l.n)

@@ -1,7 +1,7 @@
 -- A numerator below its denominator lies before the axis's end. Assumes nothing.
 use native.Mathlib.Nat.{div-le_of_le-mul}
 use Rattle.std.proofs.Common.{arith, rules}
-use Rattle.svg.proofs.points.place.Goals as goal
+use Rattle.svg.proofs.drawn.place.Goals as goal
 
 pub returns-then-x-d : goal.returns-then-x-d
 returns-then-x-d c = div-le_of_le-mul c.args.d (omega arith)
