@@ -12,10 +12,8 @@ pub fn put_bases(out: &mut [u8], bases: &[u64], axes: usize) -> usize
     requires { (axes ≤ 6) × (axes ≤ length bases.now) × (53 ≤ 8 * length out.old) × ((k : ℕ) → k < axes → 1 ≤ get_or bases.now k 0) }
     ensures { BitsPut out.old out.new 5 (bases_bits (take axes bases.now)) result }
 {
-    let mut i = 0;
-    while i < axes {
+    for i in 0..axes {
         bits::put(out, 5 + 8 * i, 8, bases[i] - 1);
-        i += 1;
     }
     5 + 8 * axes
 }
@@ -26,11 +24,9 @@ fn put_ms(out: &mut [u8], start: usize, ms: &[u64], from: usize, degree: usize) 
     ensures { BitsPut out.old out.new start (ms_bits 1 (take degree (drop from ms.now))) result × (result ≤ start + 144) }
 {
     let mut at = start;
-    let mut i = 0;
-    while i < degree {
+    for i in 0..degree {
         bits::put(out, at, i + 1, ms[from + i]);
         at += i + 1;
-        i += 1;
     }
     at
 }
@@ -56,10 +52,8 @@ pub fn put_axes(out: &mut [u8], polynomials: &[u64], ms: &[u64], axes: usize) ->
     ensures { BitsPut out.old out.new 5 (axes_bits (axes_of polynomials.now ms.now axes)) result × (result ≤ 965) }
 {
     let mut at: usize = 5;
-    let mut i: usize = 0;
-    while i < axes {
+    for i in 0..axes {
         at = put_axis(out, at, polynomials, ms, i);
-        i += 1;
     }
     at
 }

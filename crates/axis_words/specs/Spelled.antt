@@ -1,9 +1,8 @@
 -- The axis that a word spells: `0`, or the polynomial and its given m's as P:M,M,.. in decimal. Definitions only.
-use Rattle.std.specs.Prelude.{◌≡◌, ℕ, zero, suc, ◌+◌, ◌^◌, ◌<◌, ◌≤◌, Bool, cond, not, List, [], ◌∷◌, length, take, drop, ◌==◌, slice_index}
+use Rattle.std.specs.Prelude.{◌≡◌, ℕ, zero, suc, ◌+◌, ◌^◌, ◌<◌, ◌≤◌, Bool, cond, not, Ok, List, [], ◌∷◌, length, take, drop, ◌==◌, slice_index}
 use Rattle.binary.specs.Polynomial.{degree_of}
 use Rattle.words.specs.Word.{leading}
 use Rattle.words.specs.Decimal.{number_of}
-use Rattle.words.specs.declared.Number.TheVariants.{Value}
 use Rattle.plan.specs.Plan.{Axis}
 
 abbrev pub comma : ℕ
@@ -36,12 +35,12 @@ commas_in (b ∷ text) = cond (b == comma) 1 0 + commas_in text
 
 -- the word is P:M,M,.. with the polynomial p of degree 1 to 12 and as many m's as its degree
 pub record Given (word : List ℕ) (p : ℕ) (ms : List ℕ) : Type 0 where
-  pub polynomial : number_of (up_to colon word) ≡ Value p
+  pub polynomial : number_of (up_to colon word) ≡ Ok p
   pub low : 2 ≤ p
   pub high : p < 2 ^ 13
   pub parts : commas_in (past colon word) + 1 ≡ degree_of p
   pub long : length ms ≡ degree_of p
-  pub each : (k : ℕ) → k < degree_of p → number_of (part_at (past colon word) k) ≡ Value (slice_index ms k)
+  pub each : (k : ℕ) → k < degree_of p → number_of (part_at (past colon word) k) ≡ Ok (slice_index ms k)
 
 -- the word 0
 abbrev pub zero_word : List ℕ

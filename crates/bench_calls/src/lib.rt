@@ -40,11 +40,9 @@ pub extern "C" fn bench_blocks(plan: &[u8], starts: &[u64], rounds: u64, out: &m
 {
     let s = opened(plan, starts, 1048576);
     let mut points = 0;
-    let mut i = 0;
-    while i < rounds {
+    for _ in 0..rounds {
         let b = sampler::block(s, out);
         points = b.points;
-        i += 1;
     }
     points
 }
@@ -56,11 +54,9 @@ pub extern "C" fn bench_day_blocks(plan: &[u8], size: u64, rounds: u64, out: &mu
 {
     let d = made(plan, size);
     let mut points = 0;
-    let mut i = 0;
-    while i < rounds {
+    for _ in 0..rounds {
         let b = sampler::day_block(d, out);
         points = b.points;
-        i += 1;
     }
     points
 }
@@ -72,12 +68,9 @@ pub extern "C" fn bench_jumps(plan: &[u8], indexes: &[u64], out: &mut [u64]) -> 
 {
     let s = state_of(plan);
     let mut code = 0;
-    let mut i = 0;
-    while i < indexes.len() {
-        let n = indexes[i];
-        let j = sampler::jump(s, n, out);
+    for n in indexes {
+        let j = sampler::jump(s, *n, out);
         code = j.code;
-        i += 1;
     }
     code
 }
@@ -94,11 +87,9 @@ pub extern "C" fn bench_axis_jumps(family: u64, b: u64, indexes: &[u64]) -> u64
         return 0;
     }
     let mut x = 0;
-    let mut i = 0;
-    while i < indexes.len() {
-        let r = halton::jump(family, b, &[], indexes[i] % numbers::INDEXES);
+    for n in indexes {
+        let r = halton::jump(family, b, &[], *n % numbers::INDEXES);
         x = x ^ r.numerator;
-        i += 1;
     }
     x
 }
@@ -128,10 +119,8 @@ pub extern "C" fn bench_slots(
 {
     let s = state_of(plan);
     let mut x = 0;
-    let mut i = 0;
-    while i < indexes.len() {
-        x = x ^ slot_by(s, indexes[i], axis, slots, daily);
-        i += 1;
+    for n in indexes {
+        x = x ^ slot_by(s, *n, axis, slots, daily);
     }
     x
 }
@@ -143,12 +132,10 @@ pub extern "C" fn bench_steps(plan: &[u8], starts: &[u64], rounds: u64, out: &mu
 {
     let mut s = opened(plan, starts, rounds);
     let mut code = 0;
-    let mut i = 0;
-    while i < rounds {
+    for _ in 0..rounds {
         let r = sampler::step(s, out);
         code = r.code;
         s = r.state;
-        i += 1;
     }
     code
 }
@@ -165,12 +152,10 @@ pub extern "C" fn bench_steps_in_place(
 {
     let mut s = opened(plan, starts, rounds);
     let mut code = 0;
-    let mut i = 0;
-    while i < rounds {
+    for _ in 0..rounds {
         let r = waking::wake(s, out);
         code = r.code;
         s = r.state;
-        i += 1;
     }
     code
 }
@@ -199,11 +184,9 @@ pub extern "C" fn bench_counts(
 {
     let s = opened(plan, starts, count);
     let mut inside = 0;
-    let mut i = 0;
-    while i < rounds {
+    for _ in 0..rounds {
         let r = counted(s, window, by_strips);
         inside = r.inside;
-        i += 1;
     }
     inside
 }
@@ -215,11 +198,9 @@ pub extern "C" fn bench_day_counts(plan: &[u8], size: u64, window: &[u64], round
 {
     let d = made(plan, size);
     let mut inside = 0;
-    let mut i = 0;
-    while i < rounds {
+    for _ in 0..rounds {
         let c = sampler::day_count(d, window);
         inside = c.inside;
-        i += 1;
     }
     inside
 }

@@ -1,13 +1,14 @@
--- Words as bytes: each byte by a shift, and one word more after the others; the numbers of a window. Assumes nothing.
+-- Words as bytes: those that the library gives for one, and one word more after the others; the numbers of a window. Assumes nothing.
 use mathlib.Core.Path.{◌≡◌, refl, sym, ap, ap₂, ◌∙◌}
 use mathlib.Core.List.{List, [], ◌∷◌, ◌++◌, append_assoc, append-nil}
-use Prim.Native.Nat.{ℕ, zero, suc, ◌+◌, ◌-◌, ◌*◌, ◌/◌, ◌%◌, ◌^◌, ◌<◌}
+use Prim.Native.Nat.{ℕ, zero, suc, ◌+◌, ◌*◌, ◌/◌, ◌%◌, ◌^◌, ◌<◌}
 use native.Mathlib.Nat.{pow-suc}
 use native.Mathlib.Numerals.{add-one}
 use native.Mathlib.Omega.{arith}
 use lib.ListN.{length, take, drop, get_or, length-append}
 use lib.Seq.{take-suc, length-take-le, drop-nil, drop-append-add}
 use lib.Pow.{pow-add}
+use Rattle.std.specs.Int.{bytes_high_first}
 use Rattle.numbers.specs.Listed.{padded}
 use Rattle.numbers.proofs.ListedLaws.{listed_length, padded_take}
 use Rattle.bits.specs.Stream.{to_bits, bits_of, overwrite}
@@ -25,21 +26,18 @@ unfolding word_bytes
 length_words [] = refl
 length_words (x ∷ words) = length-append (bytes_of 8 x) (word_bytes words) ∙ omega (arith, length_bytes 8 x, length_words words)
 
--- ---- a byte by a shift
+-- ---- the bytes of a word
 
 weight : (k : ℕ) → 2 ^ (8 * k) ≡ 256 ^ k
 weight zero = refl
 weight (suc k) = let e : 8 * suc k ≡ 8 * k + 8 = omega arith in rw (e, pow-add 2 (8 * k) 8, pow-suc 256 k, weight k) refl
 
--- the byte after the first i of k, with j after it
-byte_at : (k n i j : ℕ) → k ≡ i + suc j → n / 256 ^ j % 256 ≡ get_or (bytes_of k n) i 0
+-- the bytes that the library's own call gives
+pub bytes_by : (k n : ℕ) → bytes_high_first k n ≡ bytes_of k n
 unfolding bytes_of
-byte_at zero n i j e = absurd (omega arith)
-byte_at (suc k) n zero j e = let d : j ≡ k = omega arith in rw d refl
-byte_at (suc k) n (suc i) j e = byte_at k n i j (omega arith)
-
-pub byte_shifted : (x i s : ℕ) → i < 8 → s ≡ 8 * (7 - i) → x / 2 ^ s % 256 ≡ get_or (bytes_of 8 x) i 0
-byte_shifted x i s h e = rw (e, weight (7 - i)) (byte_at 8 x i (7 - i) (omega arith))
+bytes_by zero n = refl
+bytes_by (suc zero) n = let e : n / 1 ≡ n = omega arith in rw e refl
+bytes_by (suc (suc k)) n = ap (λ (l : List ℕ). (n / 256 ^ suc k % 256) ∷ l) (bytes_by (suc k) n)
 
 -- ---- words one after another
 

@@ -11,11 +11,7 @@ fn put_word(out: &mut [u8], at: usize, x: u64)
     requires { at + 8 ≤ length out.old }
     ensures { out.new ≡ overwrite out.old at (bytes_of 8 x) }
 {
-    let mut i = 0;
-    while i < 8 {
-        out[at + i] = ((x >> (8 * (7 - i))) % 256) as u8;
-        i += 1;
-    }
+    out[at..at + 8].copy_from_slice(&x.to_be_bytes());
 }
 
 // Writes words to the front of `out`, 8 bytes each.
@@ -23,10 +19,8 @@ pub fn put_words(out: &mut [u8], words: &[u64])
     requires { 8 * length words.now ≤ length out.old }
     ensures { out.new ≡ overwrite out.old 0 (word_bytes words.now) }
 {
-    let mut i = 0;
-    while i < words.len() {
-        put_word(out, 8 * i, words[i]);
-        i += 1;
+    for (i, x) in words.iter().enumerate() {
+        put_word(out, 8 * i, *x);
     }
 }
 
@@ -45,11 +39,9 @@ pub fn window_numbers(bytes: &[u8], axes: usize) -> [u64; 12]
     ensures { result ≡ padded 12 (window_in bytes.now axes) }
 {
     let mut w = [0u64; 12];
-    let mut k = 0;
-    while k < 2 * axes {
+    for k in 0..2 * axes {
         let x = quad(bytes, k);
         w[k] = x;
-        k += 1;
     }
     w
 }

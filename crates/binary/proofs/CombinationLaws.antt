@@ -38,10 +38,6 @@ times_product zero v h = omega arith
 times_product (suc zero) v h = omega arith
 times_product (suc (suc c)) v h = absurd (omega arith)
 
-pub times_at_most : (d v : ℕ) → times d v ≤ v
-times_at_most zero v = omega arith
-times_at_most (suc d) v = omega arith
-
 -- a digit taken by a mask, as a factor
 pub times_masked : (g v : ℕ) → v * bit_and g 1 ≡ times (g % 2) v
 times_masked g v = ap (λ (d : ℕ). v * d) (and_mask g 1) ∙ turned v (g % 2) ∙ sym (times_product (g % 2) v (omega arith))

@@ -10,11 +10,9 @@ pub fn combine(words: &[u64], g: u64) -> u64
 {
     let mut digits = g;
     let mut x = 0;
-    let mut j = 0;
-    while j < words.len() {
-        x = x ^ (words[j] * (digits & 1));
+    for w in words {
+        x = x ^ (*w * (digits & 1));
         digits = digits >> 1;
-        j += 1;
     }
     x
 }

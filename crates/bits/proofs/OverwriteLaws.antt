@@ -7,6 +7,8 @@ use native.Mathlib.Numerals.{add-one}
 use native.Mathlib.Omega.{arith}
 use lib.ListN.{length, take, drop, get_or, set, length-append, length-set}
 use lib.Seq.{take-length, drop-drop, paste, paste-zero, paste-suc, length-paste, take-paste, drop-paste}
+use borrow.Rule.Slice.PartMut.{put_mid}
+use Rattle.std.proofs.lemmas.Slice.{put_mid-paste}
 use Rattle.bits.specs.Stream.{overwrite}
 
 pub over_is : (l : List ℕ) (p : ℕ) (x : List ℕ) → overwrite l p x ≡ take p l ++ x ++ drop (p + length x) l
@@ -43,6 +45,11 @@ module _ (l : List ℕ) (p : ℕ) where
 -- from the start of the list
 pub over_start : (l x : List ℕ) (n : ℕ) → length x ≡ n → overwrite l 0 x ≡ x ++ drop n l
 over_start l x n e = over_is l 0 x ∙ ap (λ (k : ℕ). x ++ drop k l) (zero-add (length x) ∙ e)
+
+-- a part of the list whose elements are now those of x
+pub over_part : (l : List ℕ) (at n : ℕ) (x y : List ℕ) → y ≡ x → length x ≡ n → put_mid at n l y ≡ overwrite l at x
+unfolding overwrite
+over_part l at n x y same e = put_mid-paste at n l y x (length x) same e refl
 
 -- ---- element by element
 

@@ -33,10 +33,8 @@ pub fn field(bytes: &[u8], at: usize, width: usize) -> u64
     ensures { (result ≡ field_at bytes.now at width) × (result < 4096) }
 {
     let mut value: u64 = 0;
-    let mut i = 0;
-    while i < width {
+    for i in 0..width {
         value = (value << 1) | bit(bytes, at + i);
-        i += 1;
     }
     value
 }
@@ -59,10 +57,8 @@ pub fn put(out: &mut [u8], at: usize, width: usize, v: u64)
     requires { (at + width ≤ 8 * length out.old) × (width ≤ 12) × (at < 4096) }
     ensures { bits_of out.new ≡ overwrite (bits_of out.old) at (to_bits width v) }
 {
-    let mut i = 0;
-    while i < width {
+    for i in 0..width {
         put_bit(out, at + i, (v >> (width - 1 - i)) & 1);
-        i += 1;
     }
 }
 
@@ -71,9 +67,5 @@ pub fn store(list: &mut [u64], at: usize, block: &[u64])
     requires { at + length block.now ≤ length list.old }
     ensures { list.new ≡ overwrite list.old at block.now }
 {
-    let mut i = 0;
-    while i < block.len() {
-        list[at + i] = block[i];
-        i += 1;
-    }
+    list[at..at + block.len()].copy_from_slice(block);
 }

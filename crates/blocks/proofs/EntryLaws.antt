@@ -47,9 +47,6 @@ pub all_points : {family axes : ℕ} {bases sizes images tables : List ℕ} → 
 unfolding tabled_at numerators_from numerator_from halton_from
 all_points {family} {axes} {bases} all f vs n a h i = made_points (all.at a h) (n a) i ∙ numerator_by_base family bases vs (n a + i) a f
 
-pub all_none : (family : ℕ) (bases sizes images tables : List ℕ) → AllMade family 0 bases sizes images tables
-all_none family bases sizes images tables = record { at = λ i h. absurd (omega arith) }
-
 -- one axis more, written over its entries
 pub all_more : (family i : ℕ) (bases sizes images tables : List ℕ) (size : ℕ) (ys ys' zs zs' : List ℕ) → i < 6 → length sizes ≡ 6
     → length images ≡ 1536 → length tables ≡ 1536 → length ys ≡ 256 → length zs ≡ 256

@@ -4,14 +4,15 @@
 
 ghost use Rattle.std.specs.Prelude.{◌≡◌, ◌+◌, ◌*◌, ◌^◌, ◌<◌, ◌≤◌, length};
 ghost use Rattle.columns.specs.Rows.{Column, Columns};
-ghost use Rattle.points.specs.Arrays.{numerator_from, of_axis, numerators_from, AxisAt, Arrays, Within};
+ghost use Rattle.points.specs.Arrays.{numerator_from, of_axis, Within};
+ghost use Rattle.points.specs.PlanAxes.{axes_numerators};
 ghost use Rattle.blocks.specs.Tables.{Bases, tabled_at, AllReady, AllMade};
+
+use points::PlanAxes;
 
 // Writes column `j` of the rows `lo` to `hi`, which have `s` words each: the numerators of axis `i`, row 0 being index `n`.
 fn fill_column(
-    family: u64,
-    bases: &[u64],
-    directions: &[u64],
+    p: PlanAxes,
     i: usize,
     n: u64,
     lo: usize,
@@ -20,42 +21,27 @@ fn fill_column(
     j: usize,
     out: &mut [u64],
 )
-    requires axis_at { AxisAt family bases.now directions.now i }
-    requires hi_bound { (n + hi ≤ 2 ^ 32) × (lo ≤ hi) × (j < s) × (hi * s ≤ length out.old) }
-    ensures { Column (numerator_from family bases.now directions.now n i) lo hi s j out.old out.new }
+    requires { (i < p.axes) × (n + hi ≤ 2 ^ 32) × (lo ≤ hi) × (j < s) × (hi * s ≤ length out.old) }
+    ensures { Column (numerator_from p.entry.family p.entry.bases.now p.entry.directions.now n i) lo hi s j out.old out.new }
 {
-    if family == 2 {
+    if p.family == 2 {
         let first = 32 * i;
         let last = first + 32;
-        sobol_blocks::sobol_column(&directions[first..last], n, lo, hi, s, j, out);
+        sobol_blocks::sobol_column(&p.directions[first..last], n, lo, hi, s, j, out);
         return;
     }
-    halton_blocks::halton_column(family, bases[i], n, lo, hi, s, j, out);
+    halton_blocks::halton_column(p.family, p.bases[i], n, lo, hi, s, j, out);
 }
 
 // Writes the points of the rows `lo` to `hi`, axis after axis, row 0 being that of the indexes `ns`, one for each axis.
-fn fill_rows(
-    family: u64,
-    axes: usize,
-    bases: &[u64],
-    directions: &[u64],
-    ns: &[u64],
-    lo: usize,
-    hi: usize,
-    out: &mut [u64],
-    lead: usize,
-)
-    requires { Arrays family axes bases.now directions.now × (lead ≤ 1) × Within ns.now hi
-        × (lo ≤ hi) × (hi * (lead + axes) ≤ length out.old) }
-    ensures { Columns (numerators_from family bases.now directions.now (of_axis ns.now))
-        lo hi (lead + axes) lead axes out.old out.new }
+fn fill_rows(p: PlanAxes, ns: &[u64], lo: usize, hi: usize, out: &mut [u64], lead: usize)
+    requires { (lead ≤ 1) × Within ns.now hi × (lo ≤ hi) × (hi * (lead + p.axes) ≤ length out.old) }
+    ensures { Columns (axes_numerators p.entry (of_axis ns.now)) lo hi (lead + p.entry.axes) lead p.entry.axes out.old out.new }
 {
-    let s = lead + axes;
-    let mut i = 0;
-    while i < axes {
+    let s = lead + p.axes;
+    for i in 0..p.axes {
         let n = ns[i];
-        fill_column(family, bases, directions, i, n, lo, hi, s, lead + i, out);
-        i += 1;
+        fill_column(p, i, n, lo, hi, s, lead + i, out);
     }
 }
 
@@ -72,8 +58,7 @@ fn make_all_tables(
     ensures { AllMade family axes bases.now result images.new tables.new }
 {
     let mut sizes = [0usize; 6];
-    let mut i = 0;
-    while i < axes {
+    for i in 0..axes {
         let first = 256 * i;
         let last = first + 256;
         sizes[i] = halton_blocks::make_tables(
@@ -83,7 +68,6 @@ fn make_all_tables(
             &mut images[first..last],
             &mut tables[first..last],
         );
-        i += 1;
     }
     sizes
 }
@@ -108,8 +92,7 @@ fn table_rows(
         lo hi (lead + axes) lead axes out.old out.new }
 {
     let s = lead + axes;
-    let mut i = 0;
-    while i < axes {
+    for i in 0..axes {
         let first = 256 * i;
         let last = first + 256;
         halton_blocks::fill_tiles(
@@ -124,57 +107,35 @@ fn table_rows(
             lead + i,
             out,
         );
-        i += 1;
     }
 }
 
 // Writes the `k` points from the indexes `ns` on to the first rows of `out`, so many rows at a time that they stay near while the axes pass.
-fn fill_plainly(
-    out: &mut [u64],
-    lead: usize,
-    family: u64,
-    axes: usize,
-    bases: &[u64],
-    directions: &[u64],
-    ns: &[u64],
-    k: usize,
-)
-    requires { Arrays family axes bases.now directions.now × (lead ≤ 1) × Within ns.now k × (k * (lead + axes) ≤ length out.old) }
-    ensures { Columns (numerators_from family bases.now directions.now (of_axis ns.now))
-        0 k (lead + axes) lead axes out.old out.new }
+fn fill_plainly(out: &mut [u64], lead: usize, p: PlanAxes, ns: &[u64], k: usize)
+    requires { (lead ≤ 1) × Within ns.now k × (k * (lead + p.axes) ≤ length out.old) }
+    ensures { Columns (axes_numerators p.entry (of_axis ns.now)) 0 k (lead + p.entry.axes) lead p.entry.axes out.old out.new }
 {
     let mut i = 0;
     while i < k {
-        let end = columns::least(i + 512, k);
-        fill_rows(family, axes, bases, directions, ns, i, end, out, lead);
+        let end = k.min(i + 512);
+        fill_rows(p, ns, i, end, out, lead);
         i = end;
     }
 }
 
 // Writes the `k` points of a Halton plan from the indexes `ns` on to the first rows of `out`, by tables of all axes that are made once.
-fn fill_by_tables(
-    out: &mut [u64],
-    lead: usize,
-    family: u64,
-    axes: usize,
-    bases: &[u64],
-    directions: &[u64],
-    ns: &[u64],
-    k: usize,
-)
-    requires { Arrays family axes bases.now directions.now × (lead ≤ 1) × Within ns.now k × (k * (lead + axes) ≤ length out.old)
-        × (family ≡ 2 → ⊥) }
-    ensures { Columns (numerators_from family bases.now directions.now (of_axis ns.now))
-        0 k (lead + axes) lead axes out.old out.new }
+fn fill_by_tables(out: &mut [u64], lead: usize, p: PlanAxes, ns: &[u64], k: usize)
+    requires { (lead ≤ 1) × Within ns.now k × (k * (lead + p.axes) ≤ length out.old) × (p.family ≡ 2 → ⊥) }
+    ensures { Columns (axes_numerators p.entry (of_axis ns.now)) 0 k (lead + p.entry.axes) lead p.entry.axes out.old out.new }
 {
     let mut images = [0u8; 1536];
     let mut tables = [0u64; 1536];
-    let sizes = make_all_tables(family, axes, bases, k, &mut images, &mut tables);
+    let sizes = make_all_tables(p.family, p.axes, p.bases, k, &mut images, &mut tables);
     let mut row = 0;
     while row < k {
-        let end = columns::least(row + 512, k);
+        let end = k.min(row + 512);
         table_rows(
-            axes, bases, &images, &tables, &sizes, ns, row, end, out, lead,
+            p.axes, p.bases, &images, &tables, &sizes, ns, row, end, out, lead,
         );
         row = end;
     }
@@ -182,25 +143,15 @@ fn fill_by_tables(
 
 // Writes the `k` points from the indexes `ns` on, one for each axis, to the first rows of `out`. For many points of a Halton plan tables of all
 // axes are worth their room.
-pub fn fill<'a>(
-    out: &mut [u64],
-    lead: usize,
-    family: u64,
-    axes: usize,
-    bases: &'a [u64],
-    directions: &'a [u64],
-    ns: &[u64],
-    k: usize,
-)
-    requires { Arrays family axes bases.now directions.now × (lead ≤ 1) × Within ns.now k × (k * (lead + axes) ≤ length out.old) }
-    ensures { Columns (numerators_from family bases.now directions.now (of_axis ns.now))
-        0 k (lead + axes) lead axes out.old out.new }
+pub fn fill(out: &mut [u64], lead: usize, p: PlanAxes, ns: &[u64], k: usize)
+    requires { (lead ≤ 1) × Within ns.now k × (k * (lead + p.axes) ≤ length out.old) }
+    ensures { Columns (axes_numerators p.entry (of_axis ns.now)) 0 k (lead + p.entry.axes) lead p.entry.axes out.old out.new }
 {
-    if family != 2 {
+    if p.family != 2 {
         if 1024 <= k {
-            fill_by_tables(out, lead, family, axes, bases, directions, ns, k);
+            fill_by_tables(out, lead, p, ns, k);
             return;
         }
     }
-    fill_plainly(out, lead, family, axes, bases, directions, ns, k);
+    fill_plainly(out, lead, p, ns, k);
 }

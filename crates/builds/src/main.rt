@@ -1,6 +1,8 @@
 // Builds plans from lines of words, and prints under each line the plan's bytes in hexadecimal and its words, or what is wrong.
 #![tactic(auto)]
 
+use plan::PlanFields;
+
 const STDOUT_FILENO: i32 = 1;
 
 fn print(text: &[u8]) {
@@ -15,11 +17,8 @@ fn digit(n: u8) -> u8 {
 
 // The bytes, two digits each.
 fn print_hex(bytes: &[u8]) {
-    let mut i = 0;
-    while i < bytes.len() {
-        let b = bytes[i];
-        print(&[digit(b / 16), digit(b)]);
-        i += 1;
+    for b in bytes {
+        print(&[digit(*b / 16), digit(*b)]);
     }
     print(b"\n");
 }
@@ -27,11 +26,15 @@ fn print_hex(bytes: &[u8]) {
 // The words of the plan that bytes spell.
 fn print_words(bytes: &[u8]) {
     let a = reader::read_plan(bytes);
-    let bases = a.bases;
-    let polynomials = a.polynomials;
-    let ms = a.ms;
+    let p = PlanFields {
+        family: a.family,
+        axes: a.axes,
+        bases: &a.bases,
+        polynomials: &a.polynomials,
+        ms: &a.ms,
+    };
     let mut text = [0u8; 512];
-    let n = plan_text::put_words(&mut text, a.family, a.axes, &bases, &polynomials, &ms);
+    let n = plan_text::put_words(&mut text, p);
     print(&text[..n]);
     print(b"\n");
 }
@@ -40,19 +43,19 @@ fn print_words(bytes: &[u8]) {
 fn build_into(line: &[u8], bytes: &mut [u8]) {
     print(line);
     print(b"\n    ");
-    let b = plan_builder::build(line, 0, bytes);
-    let fault = b.fault;
-    if fault.code != 0 {
-        let mut text = [0u8; 256];
-        let n = fault_text::message(fault, &mut text);
-        print(&text[..n]);
-        print(b"\n");
-        return;
+    match plan_builder::build(line, 0, bytes) {
+        Ok(len) => {
+            print_hex(&bytes[..len]);
+            print(b"    ");
+            print_words(&bytes[..len]);
+        }
+        Err(fault) => {
+            let mut text = [0u8; 256];
+            let n = fault_text::message(fault, &mut text);
+            print(&text[..n]);
+            print(b"\n");
+        }
     }
-    let len = b.len;
-    print_hex(&bytes[..len]);
-    print(b"    ");
-    print_words(&bytes[..len]);
 }
 
 // A line, and what it builds where there is room for any plan.

@@ -7,6 +7,7 @@ ghost use Rattle.calls.specs.Calls.{moved};
 use state::Sampler;
 
 // A refusal's number or 0, and the state that the call leaves.
+// It has a code and is no `Result`, since `specs/Calls.antt` and the theorems above it are equations about the code.
 #[derive(Clone, Copy)]
 pub struct Moved {
     pub code: u64,
@@ -14,12 +15,14 @@ pub struct Moved {
 }
 
 // A refusal's number or 0.
+// It has a code and is no `Result`, since `specs/Calls.antt` and the theorems above it are equations about the code.
 #[derive(Clone, Copy)]
 pub struct Jumped {
     pub code: u64,
 }
 
 // A refusal's number or 0, how many points were written, and the state that the call leaves.
+// It has a code and is no `Result`, since `specs/Calls.antt` and the theorems above it are equations about the code.
 #[derive(Clone, Copy)]
 pub struct Blocked {
     pub code: u64,
@@ -28,6 +31,7 @@ pub struct Blocked {
 }
 
 // A refusal's number or 0, and the second of the day.
+// It has a code and is no `Result`, since `specs/Calls.antt` and the theorems above it are equations about the code.
 #[derive(Clone, Copy)]
 pub struct SecondOfDay {
     pub code: u64,
@@ -35,6 +39,7 @@ pub struct SecondOfDay {
 }
 
 // A refusal's number or 0, and the slot.
+// It has a code and is no `Result`, since `specs/Calls.antt` and the theorems above it are equations about the code.
 #[derive(Clone, Copy)]
 pub struct Slotted {
     pub code: u64,

@@ -54,9 +54,7 @@ fn is_inside(l: &[u8], rows: &[u64], s: usize, o: u64) -> bool
     requires { Held l.now rows.now s × Step rows.now s o }
     ensures { result ≡ inside_ends (table_axes l.now rows.now) s o }
 {
-    let mut i = s;
-    while 0 < i {
-        let a = i - 1;
+    for a in (0..s).rev() {
         if !within_rest(
             l,
             rows,
@@ -67,7 +65,6 @@ fn is_inside(l: &[u8], rows: &[u64], s: usize, o: u64) -> bool
         ) {
             return false;
         }
-        i = a;
     }
     true
 }
@@ -92,13 +89,6 @@ fn one_step(l: &[u8], rows: &[u64], s: usize, v: u64, u: u64, x: u64, o: u64) ->
 }
 
 // ---- a class that splits
-
-// How many of the `b` classes of a class of `k` steps have a step.
-fn class_number(b: u64, k: u64) -> u64
-    ensures { (result ≤ b) × (result ≤ k) × (result < k → result ≡ b) }
-{
-    if k < b { k } else { b }
-}
 
 // How many steps class `i` has, where each of the first `more` has one more than `low`.
 fn class_size(low: u64, more: u64, i: u64) -> u64
@@ -221,11 +211,10 @@ fn split_class(
     let first = first_whole(from, left);
     let low = k / b;
     let more = k % b;
-    let end = class_number(b, k);
+    let end = k.min(b);
     let mut e = x % b;
     let mut n = 0;
-    let mut i = 0;
-    while i < end {
+    for i in 0..end {
         let d = l[256 * s + (e as usize)] as u64;
         let size = class_size(low, more, i);
         let o = t + m * i;
@@ -242,7 +231,6 @@ fn split_class(
             n = n + cut_class(l, rows, s, lo, hi, y, r, turn, o, m * b, size);
         }
         e = next_digit(e, turn, b);
-        i += 1;
     }
     n
 }

@@ -12,11 +12,9 @@ const STDOUT_FILENO: i32 = 1;
 fn say(code: u64, point: &[u64]) {
     io::print_decimal(STDOUT_FILENO, code);
     io::write_all(STDOUT_FILENO, b":");
-    let mut i = 0;
-    while i < point.len() {
+    for word in point {
         io::write_all(STDOUT_FILENO, b" ");
-        io::print_decimal(STDOUT_FILENO, point[i]);
-        i += 1;
+        io::print_decimal(STDOUT_FILENO, *word);
     }
     io::write_all(STDOUT_FILENO, b"\n");
 }

@@ -64,10 +64,6 @@ module _ {g : ℕ → ℕ} {lo i s j : ℕ} {old new : List ℕ} (c : Column g l
 -- ---- several columns
 
 module _ (g : ℕ → ℕ → ℕ) where
-  -- no columns yet
-  pub columns_none : (lo hi s c : ℕ) (l : List ℕ) → Columns g lo hi s c 0 l l
-  columns_none lo hi s c l = record { same_length = refl; wrote = λ i a h k n. absurd (omega arith); kept = λ p f. refl }
-
   -- no rows
   pub columns_empty : (lo s c j : ℕ) (l : List ℕ) → Columns g lo lo s c j l l
   columns_empty lo s c j l = record { same_length = refl; wrote = λ i a h k n. absurd (omega arith); kept = λ p f. refl }

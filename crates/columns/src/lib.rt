@@ -5,13 +5,6 @@ ghost use Rattle.std.specs.Prelude.{ℕ, ◌+◌, ◌*◌, ◌^◌, ◌<◌, ◌
 ghost use Rattle.columns.specs.Rows.{Column};
 ghost use Rattle.columns.specs.Tiles.{Tiled};
 
-// The smaller of two numbers.
-pub fn least(a: usize, b: usize) -> usize
-    ensures { (result ≤ a) × (result ≤ b) × ((x : ℕ) → x < a → x < b → x < result) }
-{
-    if a < b { a } else { b }
-}
-
 // Where a part of the rows stands in a table, and the row before which it ends.
 #[derive(Clone, Copy)]
 pub struct Tile {
@@ -25,7 +18,7 @@ pub fn tile_at(x: u64, size: usize, i: usize, hi: usize) -> Tile
     ensures { Tiled x size i hi result.place result.end }
 {
     let place = (x % (size as u64)) as usize;
-    let end = least(i + (size - place), hi);
+    let end = hi.min(i + (size - place));
     Tile {
         place: place,
         end: end,
@@ -37,11 +30,7 @@ pub fn number(n: u64, k: usize, s: usize, out: &mut [u64])
     requires { (1 ≤ s) × (k * s ≤ length out.old) × (n + k ≤ 2 ^ 32) }
     ensures { Column (◌+◌ n) 0 k s 0 out.old out.new }
 {
-    let mut at = 0;
-    let mut i = 0;
-    while i < k {
-        out[at] = n + (i as u64);
-        at += s;
-        i += 1;
+    for i in 0..k {
+        out[i * s] = n + (i as u64);
     }
 }

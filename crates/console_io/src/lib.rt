@@ -12,13 +12,13 @@ use std::rt::Stdin;
 
 // A line about the day set itself, or a first word that no call has.
 fn day_state_line(c: Console, out: &mut [u8], key: &[u8], rest: &[u8]) -> Console {
-    if check::same(key, b"daystate") {
+    if key == b"daystate".as_slice() {
         return console_lines::state(c, out, Held::DaySet, b"daystate alone", rest);
     }
-    if check::same(key, b"daypoke") {
+    if key == b"daypoke".as_slice() {
         return console_lines::poke(c, out, Held::DaySet, b"daypoke PLACE VALUE", rest);
     }
-    if check::same(key, b"dayblank") {
+    if key == b"dayblank".as_slice() {
         return console_lines::blank(c, out, Held::DaySet, b"dayblank alone", rest);
     }
     console_text::error(
@@ -30,19 +30,19 @@ fn day_state_line(c: Console, out: &mut [u8], key: &[u8], rest: &[u8]) -> Consol
 
 // A line with a call about a day set, or another.
 fn day_line(c: Console, out: &mut [u8], key: &[u8], rest: &[u8]) -> Console {
-    if check::same(key, b"day") {
+    if key == b"day".as_slice() {
         return console_lines::day(c, out, rest);
     }
-    if check::same(key, b"dayjump") {
+    if key == b"dayjump".as_slice() {
         return console_lines::jump(c, out, Held::DaySet, b"dayjump N ROOM", rest);
     }
-    if check::same(key, b"daystep") {
+    if key == b"daystep".as_slice() {
         return console_lines::room(c, out, Lent::DayStep, b"daystep ROOM", rest);
     }
-    if check::same(key, b"dayblock") {
+    if key == b"dayblock".as_slice() {
         return console_lines::room(c, out, Lent::DayBlock, b"dayblock ROOM", rest);
     }
-    if check::same(key, b"daycount") {
+    if key == b"daycount".as_slice() {
         return console_lines::count(c, out, Counting::DaySet, b"daycount U Q U Q ..", rest);
     }
     day_state_line(c, out, key, rest)
@@ -50,13 +50,13 @@ fn day_line(c: Console, out: &mut [u8], key: &[u8], rest: &[u8]) -> Console {
 
 // A line about the state itself, or another.
 fn state_line(c: Console, out: &mut [u8], key: &[u8], rest: &[u8]) -> Console {
-    if check::same(key, b"state") {
+    if key == b"state".as_slice() {
         return console_lines::state(c, out, Held::State, b"state alone", rest);
     }
-    if check::same(key, b"poke") {
+    if key == b"poke".as_slice() {
         return console_lines::poke(c, out, Held::State, b"poke PLACE VALUE", rest);
     }
-    if check::same(key, b"blank") {
+    if key == b"blank".as_slice() {
         return console_lines::blank(c, out, Held::State, b"blank alone", rest);
     }
     day_line(c, out, key, rest)
@@ -64,19 +64,19 @@ fn state_line(c: Console, out: &mut [u8], key: &[u8], rest: &[u8]) -> Console {
 
 // A line with a call on a run or a window, or another.
 fn run_line(c: Console, out: &mut [u8], key: &[u8], rest: &[u8]) -> Console {
-    if check::same(key, b"step") {
+    if key == b"step".as_slice() {
         return console_lines::room(c, out, Lent::Step, b"step ROOM", rest);
     }
-    if check::same(key, b"place") {
+    if key == b"place".as_slice() {
         return console_lines::room(c, out, Lent::Place, b"place ROOM", rest);
     }
-    if check::same(key, b"block") {
+    if key == b"block".as_slice() {
         return console_lines::room(c, out, Lent::Block, b"block ROOM", rest);
     }
-    if check::same(key, b"count") {
+    if key == b"count".as_slice() {
         return console_lines::count(c, out, Counting::Walked, b"count U Q U Q ..", rest);
     }
-    if check::same(key, b"strips") {
+    if key == b"strips".as_slice() {
         return console_lines::count(c, out, Counting::ByStrips, b"strips U Q U Q ..", rest);
     }
     state_line(c, out, key, rest)
@@ -86,22 +86,22 @@ fn run_line(c: Console, out: &mut [u8], key: &[u8], rest: &[u8]) -> Console {
 fn plan_line(c: Console, out: &mut [u8], key: &[u8], rest: &[u8]) -> Console
     requires { length rest.now ≤ 1024 }
 {
-    if check::same(key, b"read") {
+    if key == b"read".as_slice() {
         return console_lines::read(c, out, rest);
     }
-    if check::same(key, b"write") {
+    if key == b"write".as_slice() {
         return console_lines::write(c, out, rest);
     }
-    if check::same(key, b"open") {
+    if key == b"open".as_slice() {
         return console_lines::open(c, out, b"open COUNT START ..", rest);
     }
-    if check::same(key, b"jump") {
+    if key == b"jump".as_slice() {
         return console_lines::jump(c, out, Held::State, b"jump INDEX ROOM", rest);
     }
-    if check::same(key, b"second") {
+    if key == b"second".as_slice() {
         return console_lines::second(c, out, rest);
     }
-    if check::same(key, b"slot") {
+    if key == b"slot".as_slice() {
         return console_lines::slot(c, out, rest);
     }
     run_line(c, out, key, rest)
@@ -152,22 +152,20 @@ fn finish(c: Console, out: &mut [u8]) {
     lines::finish(l, out);
 }
 
-// Answers standard input, line by line. A proved loop has to end, and nothing says that the input does: so the loop counts its turns down,
-// from a number that no run uses up.
+// Answers standard input, line by line. A proved loop has to end, and nothing says that the input does: so the loop has a number of turns that
+// no run uses up.
 pub fn serve(stdin: Stdin) {
     let mut chunk = io::buffer();
     let mut line = [0u8; 1024];
     let mut out = io::buffer();
     let mut c = console_text::start();
-    let mut turns = u64::MAX;
-    while turns > 0 {
+    for _ in 0..u64::MAX {
         let l = lines::next(stdin, c.lines, &mut chunk, &mut line, &out);
         c = console_text::with_lines(c, l);
         if l.is_over {
             break;
         }
         c = next_line(c, &mut out, &line);
-        turns -= 1;
     }
     finish(c, &mut out);
 }

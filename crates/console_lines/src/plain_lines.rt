@@ -1,34 +1,31 @@
 // Lines whose call is lent nothing.
 use crate::Held;
-use console_text::{Console, Numbers};
+use console_text::Console;
 
 // `second INDEX`.
 pub fn second(c: Console, out: &mut [u8], rest: &[u8]) -> Console {
     let mut n = [0u64; 1];
-    let r = console_text::read_numbers(rest, &mut n);
-    let Numbers::Read = r else {
-        return console_text::misread(c, out, b"second INDEX", r);
-    };
+    if let Err(e) = console_text::read_numbers(rest, &mut n) {
+        return console_text::misread(c, out, b"second INDEX", e);
+    }
     console_calls::second(c, out, n[0])
 }
 
 // `slot INDEX AXIS SLOTS`.
 pub fn slot(c: Console, out: &mut [u8], rest: &[u8]) -> Console {
     let mut n = [0u64; 3];
-    let r = console_text::read_numbers(rest, &mut n);
-    let Numbers::Read = r else {
-        return console_text::misread(c, out, b"slot INDEX AXIS SLOTS", r);
-    };
+    if let Err(e) = console_text::read_numbers(rest, &mut n) {
+        return console_text::misread(c, out, b"slot INDEX AXIS SLOTS", e);
+    }
     console_calls::slot(c, out, n[0], n[1], n[2])
 }
 
 // `day N`.
 pub fn day(c: Console, out: &mut [u8], rest: &[u8]) -> Console {
     let mut n = [0u64; 1];
-    let r = console_text::read_numbers(rest, &mut n);
-    let Numbers::Read = r else {
-        return console_text::misread(c, out, b"day N", r);
-    };
+    if let Err(e) = console_text::read_numbers(rest, &mut n) {
+        return console_text::misread(c, out, b"day N", e);
+    }
     console_day::make(c, out, n[0])
 }
 
@@ -49,10 +46,9 @@ fn window(
     rest: &[u8],
     n: &mut [u64],
 ) -> Console {
-    let r = console_text::read_numbers(rest, n);
-    let Numbers::Read = r else {
-        return console_text::misread(c, out, form, r);
-    };
+    if let Err(e) = console_text::read_numbers(rest, n) {
+        return console_text::misread(c, out, form, e);
+    }
     if let Counting::DaySet = which {
         return console_day::count(c, out, n);
     }
@@ -74,10 +70,9 @@ pub fn count(c: Console, out: &mut [u8], which: Counting, form: &[u8], rest: &[u
 
 // `state`, `daystate`.
 pub fn state(c: Console, out: &mut [u8], of: Held, form: &[u8], rest: &[u8]) -> Console {
-    let r = console_text::read_numbers(rest, &mut []);
-    let Numbers::Read = r else {
-        return console_text::misread(c, out, form, r);
-    };
+    if let Err(e) = console_text::read_numbers(rest, &mut []) {
+        return console_text::misread(c, out, form, e);
+    }
     if let Held::DaySet = of {
         let d = c.day;
         return console_calls::show(c, out, b"daystate", d.run);
@@ -88,10 +83,9 @@ pub fn state(c: Console, out: &mut [u8], of: Held, form: &[u8], rest: &[u8]) -> 
 // `poke PLACE VALUE`, `daypoke PLACE VALUE`.
 pub fn poke(c: Console, out: &mut [u8], of: Held, form: &[u8], rest: &[u8]) -> Console {
     let mut n = [0u64; 2];
-    let r = console_text::read_numbers(rest, &mut n);
-    let Numbers::Read = r else {
-        return console_text::misread(c, out, form, r);
-    };
+    if let Err(e) = console_text::read_numbers(rest, &mut n) {
+        return console_text::misread(c, out, form, e);
+    }
     if 219 < n[0] {
         return console_text::error(c, out, b"PLACE to be at most 219");
     }
@@ -103,10 +97,9 @@ pub fn poke(c: Console, out: &mut [u8], of: Held, form: &[u8], rest: &[u8]) -> C
 
 // `blank`, `dayblank`.
 pub fn blank(c: Console, out: &mut [u8], of: Held, form: &[u8], rest: &[u8]) -> Console {
-    let r = console_text::read_numbers(rest, &mut []);
-    let Numbers::Read = r else {
-        return console_text::misread(c, out, form, r);
-    };
+    if let Err(e) = console_text::read_numbers(rest, &mut []) {
+        return console_text::misread(c, out, form, e);
+    }
     if let Held::DaySet = of {
         return console_day::clear(c, out);
     }

@@ -1,7 +1,7 @@
 // Lines with calls on a plan.
 ghost use Rattle.std.specs.Prelude.{◌≤◌, length};
 
-use console_text::{Console, Numbers};
+use console_text::{Console, NumbersError};
 
 // The bytes of a word's hexadecimal digits, two a byte.
 fn read_word(c: Console, out: &mut [u8], word: &[u8]) -> Console
@@ -39,10 +39,9 @@ pub fn read(c: Console, out: &mut [u8], rest: &[u8]) -> Console
 // `write ROOM`.
 pub fn write(c: Console, out: &mut [u8], rest: &[u8]) -> Console {
     let mut n = [0u64; 1];
-    let r = console_text::read_numbers(rest, &mut n);
-    let Numbers::Read = r else {
-        return console_text::misread(c, out, b"write ROOM", r);
-    };
+    if let Err(e) = console_text::read_numbers(rest, &mut n) {
+        return console_text::misread(c, out, b"write ROOM", e);
+    }
     if console_text::MOST_ROOM < n[0] {
         return console_text::no_room(c, out);
     }
@@ -55,10 +54,9 @@ pub fn write(c: Console, out: &mut [u8], rest: &[u8]) -> Console {
 fn run(c: Console, out: &mut [u8], form: &[u8], rest: &[u8], n: &mut [u64]) -> Console
     requires { 1 ≤ length n.old }
 {
-    let r = console_text::read_numbers(rest, n);
-    let Numbers::Read = r else {
-        return console_text::misread(c, out, form, r);
-    };
+    if let Err(e) = console_text::read_numbers(rest, n) {
+        return console_text::misread(c, out, form, e);
+    }
     console_calls::open(c, out, n[0], &n[1..])
 }
 
@@ -66,7 +64,7 @@ fn run(c: Console, out: &mut [u8], form: &[u8], rest: &[u8], n: &mut [u64]) -> C
 pub fn open(c: Console, out: &mut [u8], form: &[u8], rest: &[u8]) -> Console {
     let k = words::count(rest, 0);
     if k < 1 {
-        return console_text::misread(c, out, form, Numbers::Words(k));
+        return console_text::misread(c, out, form, NumbersError::Words(k));
     }
     if 512 < k {
         return console_text::error(c, out, b"at most 512 numbers");

@@ -1,6 +1,6 @@
 // Lines with calls that are lent words.
 use crate::Held;
-use console_text::{Console, Numbers};
+use console_text::Console;
 
 // Such a call; a jump with its index.
 #[derive(Clone, Copy)]
@@ -50,20 +50,18 @@ fn lend(c: Console, out: &mut [u8], which: Lent, most: u64) -> Console {
 // A line of a first word and ROOM.
 pub fn room(c: Console, out: &mut [u8], which: Lent, form: &[u8], rest: &[u8]) -> Console {
     let mut n = [0u64; 1];
-    let r = console_text::read_numbers(rest, &mut n);
-    let Numbers::Read = r else {
-        return console_text::misread(c, out, form, r);
-    };
+    if let Err(e) = console_text::read_numbers(rest, &mut n) {
+        return console_text::misread(c, out, form, e);
+    }
     lend(c, out, which, n[0])
 }
 
 // `jump INDEX ROOM`, `dayjump N ROOM`.
 pub fn jump(c: Console, out: &mut [u8], of: Held, form: &[u8], rest: &[u8]) -> Console {
     let mut n = [0u64; 2];
-    let r = console_text::read_numbers(rest, &mut n);
-    let Numbers::Read = r else {
-        return console_text::misread(c, out, form, r);
-    };
+    if let Err(e) = console_text::read_numbers(rest, &mut n) {
+        return console_text::misread(c, out, form, e);
+    }
     if let Held::DaySet = of {
         return lend(c, out, Lent::DayJump(n[0]), n[1]);
     }

@@ -1,11 +1,10 @@
 -- The numbers of a line, word by word. Assumes nothing.
-use Rattle.std.proofs.Common.{◌≡◌, ℕ, suc, ◌+◌, ◌-◌, ◌<◌, ◌≤◌, true, List, [], ◌∷◌, ◌++◌, length, take, set, sym, refl, ap, ◌∙◌, subst, append-nil, add-one, arith, length-set, take_all, take-suc-set, eq-eqb, ne_eqb}
+use Rattle.std.proofs.Common.{◌≡◌, ℕ, suc, ◌+◌, ◌-◌, ◌<◌, ◌≤◌, true, Result, Ok, Err, List, ◌∷◌, ◌++◌, length, take, set, sym, refl, ap, ◌∙◌, subst, append-nil, add-one, arith, length-set, take_all, take-suc-set, eq-eqb, ne_eqb}
 use lib.Seq.{append_snoc}
 use Rattle.words.specs.declared.Word.{Word}
-use Rattle.words.specs.declared.Number.{Number}
-use Rattle.words.specs.declared.Number.TheVariants.{Value, NoNumber, TooLarge}
-use Rattle.console_text.specs.declared.reading.Numbers.{Numbers}
-use Rattle.console_text.specs.declared.reading.Numbers.TheVariants.{Read, Words, NotNumber, Large}
+use Rattle.words.specs.declared.NumberError.{NumberError}
+use Rattle.console_text.specs.declared.reading.NumbersError.{NumbersError}
+use Rattle.console_text.specs.declared.reading.NumbersError.TheVariants.{Words, NotNumber}
 use Rattle.words.specs.Word.{first_word, words_in}
 use Rattle.console_text.specs.Reading.{number_at, after, unless_none, read_from, value_of, values_from, numbers_of}
 
@@ -16,19 +15,13 @@ module _ (line : List ℕ) (n : ℕ) where
   unfolding numbers_of
   numbers_same e = rw (eq-eqb (words_in true line) n e) refl
 
-  pub numbers_other : (k : ℕ) → k ≡ words_in true line → (k ≡ n → ⊥) → Words k ≡ numbers_of line n
+  pub numbers_other : (k : ℕ) → k ≡ words_in true line → (k ≡ n → ⊥) → Err (Words k) ≡ numbers_of line n
   unfolding numbers_of
   numbers_other k e d = rw (ne_eqb (words_in true line) n (λ f. d (e ∙ f)), e) refl
 
 -- a reading that fails is not one that succeeds
-pub words_unread : (k : ℕ) → Words k ≡ Read → ⊥
-words_unread k e = let z : ◌≡◌ {A = ℕ} 0 1 = cc in omega arith
-
-pub not_number_unread : (i : ℕ) → NotNumber i ≡ Read → ⊥
-not_number_unread i e = let z : ◌≡◌ {A = ℕ} 0 1 = cc in omega arith
-
-pub large_unread : (i : ℕ) → Large i ≡ Read → ⊥
-large_unread i e = let z : ◌≡◌ {A = ℕ} 0 1 = cc in omega arith
+pub unread : (e : NumbersError) → ◌≡◌ {A = Result (Unit {0}) NumbersError} (Err e) (Ok tt) → ⊥
+unread e f = let z : ◌≡◌ {A = ℕ} 0 1 = cc in omega arith
 
 -- ---- word by word
 
@@ -59,15 +52,15 @@ module _ (line : List ℕ) (n : ℕ) where
     values_on = c.values ∙ ap (λ (k : ℕ). take i out ++ values_from line at k) left
 
     -- a number
-    reading_after : (v : ℕ) → number_at line at ≡ Value v → after line at ≤ length line → Reading line n (after line at) (i + 1) (set out i v)
+    reading_after : (v : ℕ) → number_at line at ≡ Ok v → after line at ≤ length line → Reading line n (after line at) (i + 1) (set out i v)
     unfolding unless_none value_of
     reading_after v e p =
         record {
           size = length-set out i v ∙ c.size;
           place = p;
           most = omega arith;
-          rest = read_on ∙ ap (λ (x : Number). unless_none x i (read_from line (after line at) (i + 1) (n - (i + 1)))) e;
-          values = values_on ∙ ap (λ (x : Number). take i out ++ (value_of x ∷ values_from line (after line at) (n - (i + 1)))) e ∙ stored v;
+          rest = read_on ∙ ap (λ (x : Result ℕ NumberError). unless_none x i (read_from line (after line at) (i + 1) (n - (i + 1)))) e;
+          values = values_on ∙ ap (λ (x : Result ℕ NumberError). take i out ++ (value_of x ∷ values_from line (after line at) (n - (i + 1)))) e ∙ stored v;
         }
       where
         stored : (v : ℕ) → take i out ++ (v ∷ values_from line (after line at) (n - (i + 1))) ≡ take (i + 1) (set out i v) ++ values_from line (after line at) (n - (i + 1))
@@ -75,27 +68,23 @@ module _ (line : List ℕ) (n : ℕ) where
             sym (append_snoc (take i out) v (values_from line (after line at) (n - (i + 1))))
             ∙ ap (λ (x : List ℕ). x ++ values_from line (after line at) (n - (i + 1))) (sym (take-suc-set out i v (omega (arith, c.size))) ∙ ap (λ (k : ℕ). take k (set out i v)) (sym (add-one i)))
 
-    pub reading_next : (v : ℕ) (w : Word) → w ≡ first_word line at → number_at line at ≡ Value v → w.end ≤ length line
+    pub reading_next : (v : ℕ) (w : Word) → w ≡ first_word line at → number_at line at ≡ Ok v → w.end ≤ length line
         → Reading line n w.end (i + 1) (set out i v)
     reading_next v w f e p =
         subst (λ (x : Word). Reading line n x.end (i + 1) (set out i v)) (sym f)
         (reading_after v e (subst (λ (x : Word). x.end ≤ length line) f p))
 
     -- no number
-    pub reading_none_here : number_at line at ≡ NoNumber → read_from line 0 0 n ≡ NotNumber i
+    pub reading_none_here : (d : NumberError) → number_at line at ≡ Err d → read_from line 0 0 n ≡ Err (NotNumber i d)
     unfolding unless_none
-    reading_none_here e = read_on ∙ ap (λ (x : Number). unless_none x i (read_from line (after line at) (i + 1) (n - (i + 1)))) e
-
-    pub reading_large_here : number_at line at ≡ TooLarge → read_from line 0 0 n ≡ Large i
-    unfolding unless_none
-    reading_large_here e = read_on ∙ ap (λ (x : Number). unless_none x i (read_from line (after line at) (i + 1) (n - (i + 1)))) e
+    reading_none_here d e = read_on ∙ ap (λ (x : Result ℕ NumberError). unless_none x i (read_from line (after line at) (i + 1) (n - (i + 1)))) e
 
   -- all words are read
   module _ {at i : ℕ} {out : List ℕ} (c : Reading line n at i out) (h : n ≤ i) where
     none : n - i ≡ 0
     none = omega arith
 
-    pub reading_all : read_from line 0 0 n ≡ Read
+    pub reading_all : read_from line 0 0 n ≡ Ok tt
     unfolding read_from
     reading_all = c.rest ∙ ap (read_from line at i) none
 

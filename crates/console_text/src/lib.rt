@@ -9,7 +9,7 @@ ghost use Rattle.console_text.specs.Held.{Holds};
 ghost use Rattle.console_text.specs.Lent.{lent_bytes, lent_words};
 
 use lines::Lines;
-pub use reading::{Numbers, misread, read_numbers};
+pub use reading::{NumbersError, misread, read_numbers};
 pub use report::{answer, answer_bytes, error, no_room, not_hex};
 use sampler::{DaySet, Sampler};
 

@@ -5,41 +5,35 @@ ghost use Rattle.console_text.specs.Reading.{NumbersRead};
 use crate::report::expected;
 use crate::{Console, with_lines};
 use lines::Lines;
-use words::Number;
+use words::NumberError;
 
-// The numbers are read; or the line has another number of words, or the word at a place from 0 is no number or one above 2^64 - 1.
-#[derive(Clone, Copy)]
-pub enum Numbers {
-    Read,
+// Why the numbers of a line are not read: it has another number of words, or the word at a place from 0 spells no number.
+#[derive(Clone, Copy, PartialEq, Eq, Debug)]
+pub enum NumbersError {
     Words(usize),
-    NotNumber(usize),
-    Large(usize),
+    NotNumber(usize, NumberError),
 }
 
 // Reads the words of the rest of a line as numbers, as many as `out` has room for.
-pub fn read_numbers(rest: &[u8], out: &mut [u64]) -> Numbers
+pub fn read_numbers(rest: &[u8], out: &mut [u64]) -> Result<(), NumbersError>
     ensures { NumbersRead rest.now out.old result out.new }
 {
     let k = words::count(rest, 0);
     if k != out.len() {
-        return Numbers::Words(k);
+        return Err(NumbersError::Words(k));
     }
     let mut at = 0;
-    let mut i = 0;
-    while i < out.len() {
+    for (i, x) in out.iter_mut().enumerate() {
         let w = words::find(rest, at);
         let start = w.start;
         let end = w.end;
-        let number = words::decimal(&rest[start..end]);
-        match number {
-            Number::Value(v) => out[i] = v,
-            Number::NoNumber => return Numbers::NotNumber(i),
-            Number::TooLarge => return Numbers::Large(i),
+        match words::decimal(&rest[start..end]) {
+            Ok(v) => *x = v,
+            Err(e) => return Err(NumbersError::NotNumber(i, e)),
         }
         at = end;
-        i += 1;
     }
-    Numbers::Read
+    Ok(())
 }
 
 // Puts the number of a word after the first, whose place is counted from 0, and what it is.
@@ -64,25 +58,24 @@ fn put_count(l: Lines, out: &mut [u8], words: usize) -> Lines {
     )
 }
 
-// Puts what is wrong with a line's numbers.
-fn put_wrong(l: Lines, out: &mut [u8], n: Numbers) -> Lines {
-    if let Numbers::Words(k) = n {
-        return put_count(l, out, k);
+// Puts why a line's numbers are not read.
+fn put_wrong(l: Lines, out: &mut [u8], e: NumbersError) -> Lines {
+    match e {
+        NumbersError::Words(k) => put_count(l, out, k),
+        NumbersError::NotNumber(i, NumberError::NotDecimal) => {
+            put_word(l, out, i, b" is no decimal number\n")
+        }
+        NumbersError::NotNumber(i, NumberError::TooLarge) => {
+            put_word(l, out, i, b" is above 18446744073709551615\n")
+        }
     }
-    if let Numbers::NotNumber(i) = n {
-        return put_word(l, out, i, b" is no decimal number\n");
-    }
-    if let Numbers::Large(i) = n {
-        return put_word(l, out, i, b" is above 18446744073709551615\n");
-    }
-    lines::put(l, out, b"\n")
 }
 
 // A line whose numbers were not read: its form, and what is wrong.
-pub fn misread(c: Console, out: &mut [u8], form: &[u8], n: Numbers) -> Console
+pub fn misread(c: Console, out: &mut [u8], form: &[u8], e: NumbersError) -> Console
     ensures { Holds result c.state c.day }
 {
     let l = expected(c, out, form);
-    let end = put_wrong(l, out, n);
+    let end = put_wrong(l, out, e);
     with_lines(c, end)
 }

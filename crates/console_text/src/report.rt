@@ -7,11 +7,9 @@ use lines::Lines;
 // Puts words in decimal, a blank before each.
 fn put_words(l: Lines, out: &mut [u8], words: &[u64]) -> Lines {
     let mut next = l;
-    let mut i = 0;
-    while i < words.len() {
+    for word in words {
         next = lines::put(next, out, b" ");
-        next = lines::put_number(next, out, words[i]);
-        i += 1;
+        next = lines::put_number(next, out, *word);
     }
     next
 }

@@ -16,7 +16,7 @@ pub fn make_day_set(s: Sampler, size: u64) -> DayMoved
     ensures { result ≡ make_spec s size }
 {
     let zeros = [0u64; 6];
-    let axes = columns::least(s.axes, 6);
+    let axes = s.axes.min(6);
     let r = plan_calls::open(s, &zeros[..axes], size);
     if r.code != 0 {
         return DayMoved {
@@ -60,7 +60,7 @@ pub fn day_jump(d: DaySet, n: u64, out: &mut [u64]) -> Jumped
         };
     }
     let index = index_of(n, s.count);
-    let first = columns::least(1, out.len());
+    let first = out.len().min(1);
     let r = index_calls::jump(s, index, &mut out[first..]);
     put_number(r.code, n, out);
     r
@@ -78,7 +78,7 @@ pub fn day_step(d: DaySet, out: &mut [u64]) -> DayMoved
         };
     }
     let next = run.taken;
-    let first = columns::least(1, out.len());
+    let first = out.len().min(1);
     let r = run_calls::step(run, &mut out[first..]);
     put_number(r.code, next, out);
     let stepped = r.state;

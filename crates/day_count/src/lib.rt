@@ -6,6 +6,7 @@ ghost use Rattle.day_count.specs.Count.{day_count_spec};
 
 use day_set::DaySet;
 use plan::refusal;
+use points::PlanAxes;
 use window_count::Counted;
 
 // The bound of a day set: that of the plan for as many points plus 1, and 0 for Sobol, which claims none.
@@ -28,17 +29,7 @@ pub fn day_count(d: DaySet, w: &[u64]) -> Counted
     if !day_set::from_zero(&s.starts) {
         return window_count::refused(refusal::INVALID_STATE);
     }
-    if !genuine::is_genuine(
-        s.family,
-        s.axes,
-        &s.bases,
-        &s.polynomials,
-        &s.directions,
-        &s.starts,
-        s.count,
-        s.taken,
-        &s.numerators,
-    ) {
+    if !genuine::is_genuine(&s) {
         return window_count::refused(refusal::INVALID_STATE);
     }
     let axes = s.axes;
@@ -47,16 +38,14 @@ pub fn day_count(d: DaySet, w: &[u64]) -> Counted
     }
     let first = inside_count::cut_limit(w[0], w[1], s.count);
     let ns = [0u64; 6];
-    let inside = strip_count::count_inside(
-        s.family,
-        axes,
-        &s.bases,
-        &s.directions,
-        &ns,
-        first as usize,
-        &w[2..],
-    );
-    let bound = window::bound(s.family, axes, &s.bases, &s.directions, s.count);
+    let p = PlanAxes {
+        family: s.family,
+        axes: s.axes,
+        bases: &s.bases,
+        directions: &s.directions,
+    };
+    let inside = strip_count::count_inside(p, &ns, first as usize, &w[2..]);
+    let bound = window::bound(p, s.count);
     Counted {
         code: 0,
         inside,

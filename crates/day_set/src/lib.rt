@@ -13,6 +13,7 @@ pub struct DaySet {
 }
 
 // A refusal's number or 0, and the day set that the call leaves.
+// It has a code and is no `Result`, since `specs/Calls.antt` and the theorems above it are equations about the code.
 #[derive(Clone, Copy)]
 pub struct DayMoved {
     pub code: u64,
@@ -20,6 +21,7 @@ pub struct DayMoved {
 }
 
 // A refusal's number or 0, how many points were written, and the day set that the call leaves.
+// It has a code and is no `Result`, since `specs/Calls.antt` and the theorems above it are equations about the code.
 #[derive(Clone, Copy)]
 pub struct DayBlocked {
     pub code: u64,

@@ -2,20 +2,20 @@
 #![tactic(auto)]
 
 ghost use Rattle.std.specs.Prelude.{◌≡◌, true, ◌↔◌, ◌+◌, ◌<◌, ◌≤◌, length};
-ghost use Rattle.fitting.specs.Fits.{ZeroFrom, CoprimeTo, FitBases, FitHalton, NewTo, FitAxes, FitSobol, FitPlan, FitRun, FitPoint, FitNext, Sized};
+ghost use Rattle.fitting.specs.Fits.{ZeroFrom, CoprimeTo, FitBases, FitHalton, NewTo, FitAxes, FitSobol, FitPlan, FitRun, FitPoint, FitNext};
 ghost use Rattle.points.specs.Arrays.{of_axis, Arrays, Within};
 ghost use Rattle.points.specs.Run.{run_of};
-ghost use Rattle.state.specs.State.{state_of, genuine};
+ghost use Rattle.state.specs.State.{genuine};
+
+use state::Sampler;
 
 // Whether the words from place `from` on are 0.
 pub fn is_zero(words: &[u64], from: usize) -> bool
     ensures { (result ≡ true) ↔ ZeroFrom from words.now }
 {
     let mut x: u64 = 0;
-    let mut i = from;
-    while i < words.len() {
+    for i in from..words.len() {
         x = x | words[i];
-        i += 1;
     }
     x == 0
 }
@@ -27,12 +27,10 @@ fn is_coprime(b: u64, bases: &[u64], n: usize) -> bool
     requires { n ≤ length bases.now }
     ensures { (result ≡ true) ↔ CoprimeTo b bases.now n }
 {
-    let mut j = 0;
-    while j < n {
+    for j in 0..n {
         if numbers::gcd(b, bases[j]) != 1 {
             return false;
         }
-        j += 1;
     }
     true
 }
@@ -42,8 +40,7 @@ fn are_bases(bases: &[u64], n: usize) -> bool
     requires { n ≤ length bases.now }
     ensures { (result ≡ true) ↔ FitBases bases.now n }
 {
-    let mut i = 0;
-    while i < n {
+    for i in 0..n {
         let b = bases[i];
         if b < 2 {
             return false;
@@ -54,35 +51,28 @@ fn are_bases(bases: &[u64], n: usize) -> bool
         if !is_coprime(b, bases, i) {
             return false;
         }
-        i += 1;
     }
     true
 }
 
-// Whether the arrays are those of a Halton plan, of a family that is not Sobol's.
-fn is_halton<'a>(
-    family: u64,
-    axes: usize,
-    bases: &'a [u64],
-    polynomials: &'a [u64],
-    directions: &'a [u64],
-) -> bool
-    requires { (axes ≤ length bases.now) × (family ≡ 2 → ⊥) }
-    ensures { (result ≡ true) ↔ FitHalton family axes bases.now polynomials.now directions.now }
+// Whether the state's arrays are those of a Halton plan, of a family that is not Sobol's.
+fn is_halton(s: &Sampler) -> bool
+    requires { (s.now.axes ≤ 6) × (s.now.family ≡ 2 → ⊥) }
+    ensures { (result ≡ true) ↔ FitHalton s.now.family s.now.axes s.now.bases s.now.polynomials s.now.directions }
 {
-    if 3 < family {
+    if 3 < s.family {
         return false;
     }
-    if !are_bases(bases, axes) {
+    if !are_bases(&s.bases, s.axes) {
         return false;
     }
-    if !is_zero(bases, axes) {
+    if !is_zero(&s.bases, s.axes) {
         return false;
     }
-    if !is_zero(polynomials, 0) {
+    if !is_zero(&s.polynomials, 0) {
         return false;
     }
-    is_zero(directions, 0)
+    is_zero(&s.directions, 0)
 }
 
 // ---- Sobol plans
@@ -93,12 +83,10 @@ fn is_new(polynomials: &[u64], n: usize) -> bool
     ensures { (result ≡ true) ↔ NewTo polynomials.now n n }
 {
     let p = polynomials[n];
-    let mut j = 0;
-    while j < n {
+    for j in 0..n {
         if p == polynomials[j] {
             return false;
         }
-        j += 1;
     }
     true
 }
@@ -108,8 +96,7 @@ fn are_axes(polynomials: &[u64], directions: &[u64], n: usize) -> bool
     requires { (n ≤ 6) × (n ≤ length polynomials.now) × (length directions.now ≡ 192) }
     ensures { (result ≡ true) ↔ FitAxes polynomials.now directions.now n }
 {
-    let mut i = 0;
-    while i < n {
+    for i in 0..n {
         if !is_new(polynomials, i) {
             return false;
         }
@@ -119,137 +106,100 @@ fn are_axes(polynomials: &[u64], directions: &[u64], n: usize) -> bool
         if !axis_test::is_axis(p, &directions[from..to]) {
             return false;
         }
-        i += 1;
     }
     true
 }
 
-// Whether the arrays are those of a Sobol plan.
-fn is_sobol(axes: usize, bases: &[u64], polynomials: &[u64], directions: &[u64]) -> bool
-    requires { (axes ≤ 6) × (length polynomials.now ≡ 6) × (length directions.now ≡ 192) }
-    ensures { (result ≡ true) ↔ FitSobol axes bases.now polynomials.now directions.now }
+// Whether the state's arrays are those of a Sobol plan.
+fn is_sobol(s: &Sampler) -> bool
+    requires { s.now.axes ≤ 6 }
+    ensures { (result ≡ true) ↔ FitSobol s.now.axes s.now.bases s.now.polynomials s.now.directions }
 {
-    if !is_zero(bases, 0) {
+    if !is_zero(&s.bases, 0) {
         return false;
     }
-    if !is_zero(polynomials, axes) {
+    if !is_zero(&s.polynomials, s.axes) {
         return false;
     }
-    if !is_zero(directions, 32 * axes) {
+    if !is_zero(&s.directions, 32 * s.axes) {
         return false;
     }
-    are_axes(polynomials, directions, axes)
+    are_axes(&s.polynomials, &s.directions, s.axes)
 }
 
 // ---- the whole
 
-// Whether the arrays are those of a plan.
-fn is_plan<'a>(
-    family: u64,
-    axes: usize,
-    bases: &'a [u64],
-    polynomials: &'a [u64],
-    directions: &'a [u64],
-) -> bool
-    requires { (axes ≤ 6) × (length bases.now ≡ 6) × (length polynomials.now ≡ 6) × (length directions.now ≡ 192) }
-    ensures { (result ≡ true) ↔ FitPlan family axes bases.now polynomials.now directions.now }
+// Whether the state's arrays are those of a plan.
+fn is_plan(s: &Sampler) -> bool
+    requires { s.now.axes ≤ 6 }
+    ensures { (result ≡ true) ↔ FitPlan s.now.family s.now.axes s.now.bases s.now.polynomials s.now.directions }
 {
-    if family == 2 {
-        return is_sobol(axes, bases, polynomials, directions);
+    if s.family == 2 {
+        return is_sobol(s);
     }
-    is_halton(family, axes, bases, polynomials, directions)
+    is_halton(s)
 }
 
 // Whether an opening takes the first `axes` starts, zeros follow, and no more points are taken than there are.
-fn is_run(family: u64, axes: usize, starts: &[u64], count: u64, taken: u64) -> bool
-    requires { axes ≤ length starts.now }
-    ensures { (result ≡ true) ↔ FitRun family axes starts.now count taken }
+fn is_run(s: &Sampler) -> bool
+    requires { s.now.axes ≤ 6 }
+    ensures { (result ≡ true) ↔ FitRun s.now.family s.now.axes s.now.starts s.now.count s.now.taken }
 {
-    if !points::all_in_range(&starts[..axes], count) {
+    let axes = s.axes;
+    if !points::all_in_range(&s.starts[..axes], s.count) {
         return false;
     }
-    if !points::has_starts(family, axes, &starts[..axes]) {
+    if !points::has_starts(s.family, axes, &s.starts[..axes]) {
         return false;
     }
-    if !is_zero(starts, axes) {
+    if !is_zero(&s.starts, axes) {
         return false;
     }
-    taken <= count
+    s.taken <= s.count
 }
 
-// Whether the words of `x` are the point `t` places after the first index of each axis.
-fn is_point<'a>(
-    family: u64,
-    axes: usize,
-    bases: &'a [u64],
-    directions: &'a [u64],
-    x: &'a [u64],
-    starts: &'a [u64],
-    t: u64,
-) -> bool
-    requires { Arrays family axes bases.now directions.now × (length x.now ≡ 6) × Within starts.now (t + 1) }
-    ensures { (result ≡ true) ↔ FitPoint family axes bases.now directions.now x.now (λ i. of_axis starts.now i + t) }
+// Whether the words of the next point are the point `taken` places after the first index of each axis.
+fn is_point(s: &Sampler) -> bool
+    requires { Arrays s.now.family s.now.axes s.now.bases s.now.directions × Within s.now.starts (s.now.taken + 1) }
+    ensures { (result ≡ true) ↔ FitPoint s.now.family s.now.axes s.now.bases s.now.directions s.now.numerators (λ i. of_axis s.now.starts i + s.now.taken) }
 {
-    let mut axis = 0;
-    while axis < axes {
-        let y = points::numerator(family, bases, directions, starts[axis] + t, axis);
-        if x[axis] != y {
+    for axis in 0..s.axes {
+        let n = s.starts[axis] + s.taken;
+        if s.numerators[axis] != points::numerator(s.family, &s.bases, &s.directions, n, axis) {
             return false;
         }
-        axis += 1;
     }
-    is_zero(x, axes)
+    is_zero(&s.numerators, s.axes)
 }
 
-// Whether the words of `x` are the run's next point, and 0 where none is left.
-fn is_next<'a>(
-    family: u64,
-    axes: usize,
-    bases: &'a [u64],
-    directions: &'a [u64],
-    x: &'a [u64],
-    starts: &'a [u64],
-    count: u64,
-    taken: u64,
-) -> bool
-    requires { Arrays family axes bases.now directions.now × (length x.now ≡ 6) × Within starts.now count }
-    ensures { (result ≡ true) ↔ FitNext family axes bases.now directions.now x.now (run_of starts.now count) taken }
+// Whether the words of the next point are the run's next point, and 0 where none is left.
+fn is_next(s: &Sampler) -> bool
+    requires { Arrays s.now.family s.now.axes s.now.bases s.now.directions × Within s.now.starts s.now.count }
+    ensures { (result ≡ true) ↔ FitNext s.now.family s.now.axes s.now.bases s.now.directions s.now.numerators
+        (run_of s.now.starts s.now.count) s.now.taken }
 {
-    if taken < count {
-        return is_point(family, axes, bases, directions, x, starts, taken);
+    if s.taken < s.count {
+        return is_point(s);
     }
-    is_zero(x, 0)
+    is_zero(&s.numerators, 0)
 }
 
-// Whether some accepted reading, with any accepted openings, steps and blocks after it, leaves the state. Its words are lent, since a state
-// by value is a copy of 1.7 KiB.
-pub fn is_genuine<'a>(
-    family: u64,
-    axes: usize,
-    bases: &'a [u64; 6],
-    polynomials: &'a [u64; 6],
-    directions: &'a [u64; 192],
-    starts: &'a [u64; 6],
-    count: u64,
-    taken: u64,
-    numerators: &'a [u64; 6],
-) -> bool
-    requires { Sized (state_of family axes bases.now polynomials.now directions.now starts.now count taken numerators.now) }
-    ensures { result ≡ genuine (state_of family axes bases.now polynomials.now directions.now starts.now count taken numerators.now) }
+// Whether some accepted reading, with any accepted openings, steps and blocks after it, leaves the state. It is lent, since a state by value is a
+// copy of 1.7 KiB.
+pub fn is_genuine(s: &Sampler) -> bool
+    ensures { result ≡ genuine s.now }
 {
-    if axes < 1 {
+    if s.axes < 1 {
         return false;
     }
-    if 6 < axes {
+    if 6 < s.axes {
         return false;
     }
-    if !is_run(family, axes, starts, count, taken) {
+    if !is_run(s) {
         return false;
     }
-    if !is_plan(family, axes, bases, polynomials, directions) {
+    if !is_plan(s) {
         return false;
     }
-    is_next(
-        family, axes, bases, directions, numerators, starts, count, taken,
-    )
+    is_next(s)
 }

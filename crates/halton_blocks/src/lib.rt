@@ -14,10 +14,8 @@ fn run(base: u64, t: &[u64], r: usize, lo: usize, hi: usize, s: usize, j: usize,
     requires by_index { (x : ℕ) → x < hi - lo + r → get_or t.now x 0 < 2 ^ 40 }
     ensures { Column (tile_of ◌+◌ base t.now lo r) lo hi s j out.old out.new }
 {
-    let mut i = lo;
-    while i < hi {
+    for i in lo..hi {
         out[i * s + j] = base + t[i - lo + r];
-        i += 1;
     }
 }
 
@@ -58,7 +56,7 @@ fn table_limit(b: u64, m: usize) -> usize
     if m < (b as usize) {
         return b as usize;
     }
-    columns::least(m, 256)
+    m.min(256)
 }
 
 // Makes the images of an axis and its first points, in the fronts of `l` and `t`, for `m` rows. Answers how many first points there are.
@@ -105,11 +103,9 @@ fn jump_column(
     requires { (2 ≤ b) × (b ≤ 256) × (n + hi ≤ 2 ^ 32) × (lo ≤ hi) × (j < s) × (hi * s ≤ length out.old) }
     ensures { Column (halton_from family b n) lo hi s j out.old out.new }
 {
-    let mut i = lo;
-    while i < hi {
+    for i in lo..hi {
         let r = halton::jump(family, b, &[], n + (i as u64));
         out[i * s + j] = r.numerator;
-        i += 1;
     }
 }
 

@@ -21,10 +21,8 @@ fn run(base: u64, t: &[u64], r: usize, lo: usize, hi: usize, limit: u64, l: &mut
     ensures { Marked (tile_of ◌+◌ base t.now lo r) limit lo hi l.old l.new }
 {
     let bound = left(limit, base);
-    let mut i = lo;
-    while i < hi {
+    for i in lo..hi {
         l[i] = marks::keep(t[i - lo + r], bound, l[i]);
-        i += 1;
     }
 }
 

@@ -6,36 +6,36 @@ use Prim.Native.Nat.{ℕ, suc, ◌+◌, ◌-◌, ◌*◌, ◌<◌, ◌≤◌}
 use native.Mathlib.Numerals.{add-one}
 use native.Mathlib.Omega.{arith}
 use lib.Dec.{ltb, eqb}
-use lib.ListN.{length, take, drop, get_or, replicate, set, length-set, length-take, drop_of_length-le}
-use lib.Seq.{drop-cons, get_or-take, drop-drop, take-suc-set}
+use lib.ListN.{length, take, drop, get_or, replicate, set, length-set, drop_of_length-le}
+use lib.Seq.{drop-cons, drop-drop, take-suc-set}
 use borrow.Author.Tests.{eq-eqb, ne_eqb}
 use Rattle.numbers.specs.Gcd.{gcd}
 use Rattle.bits.specs.Stream.{of_bits, bits_of, field_at}
-use Rattle.plan.specs.Reading.{refuse, refuse_if, field, shares_factor, read_bases}
+use Rattle.plan.specs.Reading.{Step, refuse, refuse_if, field, shares_factor, read_bases}
 use Rattle.halton_reader.specs.Bases.{BasesAnswer}
-use Rattle.plan.proofs.BlankLaws.{drop_zeros, blank_set}
+use Rattle.plan.proofs.BlankLaws.{blank_set}
 use Rattle.plan.proofs.PartLaws.{long_field, field_value}
 
--- ---- a base against the first n of an array
+-- ---- a base against the earlier ones
 
 -- those from place j on decide for all of them
-pub record SharesLoop (b : ℕ) (bases : List ℕ) (n j : ℕ) : Type 0 where
-  pub same : shares_factor b (take n bases) ≡ shares_factor b (drop j (take n bases))
+pub record SharesLoop (b : ℕ) (bases : List ℕ) (j : ℕ) : Type 0 where
+  pub same : shares_factor b bases ≡ shares_factor b (drop j bases)
 
-module _ {b : ℕ} {bases : List ℕ} {n j : ℕ} (inv : SharesLoop b bases n j) where
-  pub shares_end : n ≤ j → false ≡ shares_factor b (take n bases)
+module _ {b : ℕ} {bases : List ℕ} {j : ℕ} (inv : SharesLoop b bases j) where
+  pub shares_end : length bases ≤ j → false ≡ shares_factor b bases
   unfolding shares_factor
-  shares_end h = sym (inv.same ∙ rw (drop_of_length-le (take n bases) {i = j} (omega (arith, length-take n bases))) refl)
+  shares_end h = sym (inv.same ∙ rw (drop_of_length-le bases {i = j} h) refl)
 
-  module _ (h : j < n) (k : n ≤ length bases) {g : ℕ} (e : g ≡ gcd b (get_or bases j 0)) where
-    one_base : shares_factor b (take n bases) ≡ not (eqb g 1) || shares_factor b (drop (j + 1) (take n bases))
+  module _ (h : j < length bases) {g : ℕ} (e : g ≡ gcd b (get_or bases j 0)) where
+    one_base : shares_factor b bases ≡ not (eqb g 1) || shares_factor b (drop (j + 1) bases)
     unfolding shares_factor
-    one_base = inv.same ∙ rw (add-one, drop-cons (take n bases) j 0 (omega (arith, length-take n bases)), get_or-take n bases j 0 h, e) refl
+    one_base = inv.same ∙ rw (add-one, drop-cons bases j 0 h, e) refl
 
-    pub shares_stop : (g ≡ 1 → ⊥) → true ≡ shares_factor b (take n bases)
+    pub shares_stop : (g ≡ 1 → ⊥) → true ≡ shares_factor b bases
     shares_stop f = sym (one_base ∙ rw (ne_eqb g 1 f) refl)
 
-    pub shares_next : g ≡ 1 → {i : ℕ} → i ≡ j + 1 → SharesLoop b bases n i
+    pub shares_next : g ≡ 1 → {i : ℕ} → i ≡ j + 1 → SharesLoop b bases i
     shares_next f ei = record { same = one_base ∙ rw (eq-eqb g 1 f, ei) refl }
 
 -- ---- one base of the reading, by the tests
@@ -78,16 +78,12 @@ bases_start bytes axes h =
       same = ap (λ (k : ℕ). read_bases k [] (drop 5 (bits_of bytes))) (omega arith);
     }
 
--- number n is right for the answer of `no_bases`
-abbrev pub BasesStop : List ℕ → ℕ → ℕ → Type 0
-BasesStop bytes axes n = (code at : ℕ) (bases : List ℕ) → (code ≡ n) × (at ≡ 0) × (bases ≡ replicate 6 0) → BasesAnswer bytes axes code at bases
-
-bases_refused : (bytes : List ℕ) (axes n : ℕ) → read_bases axes [] (drop 5 (bits_of bytes)) ≡ refuse (suc n) → BasesStop bytes axes (suc n)
-bases_refused bytes axes n e code at bases f =
-    rw (f.0, f.1, f.2) (record { step = e; blank = drop_zeros 6 axes; size = refl; within = omega arith; near = omega arith })
+-- the reading of so many bases, from bit 5 on
+abbrev pub bases_reading : List ℕ → ℕ → Step (List ℕ)
+bases_reading bytes axes = read_bases axes [] (drop 5 (bits_of bytes))
 
 module _ {bytes : List ℕ} {axes : ℕ} {bases : List ℕ} {at i : ℕ} (inv : BasesLoop bytes axes bases at i) (most : axes ≤ 6) where
-  pub bases_end : axes ≤ i → BasesAnswer bytes axes 0 at bases
+  pub bases_end : axes ≤ i → BasesAnswer bytes axes at bases
   unfolding read_bases
   bases_end h =
       let e : i ≡ axes = omega arith in
@@ -95,19 +91,19 @@ module _ {bytes : List ℕ} {axes : ℕ} {bases : List ℕ} {at i : ℕ} (inv : 
       record { step = inv.same ∙ rw (z, e) refl; blank = rw e at inv.blank; size = inv.size; within = inv.inside; near = omega arith }
 
   module _ (h : i < axes) {r : Bool} (er : r ≡ ltb (length (drop at (bits_of bytes))) 8) where
-    turn : read_bases axes [] (drop 5 (bits_of bytes)) ≡ read_bases (suc (axes - (i + 1))) (take i bases) (drop at (bits_of bytes))
+    turn : bases_reading bytes axes ≡ read_bases (suc (axes - (i + 1))) (take i bases) (drop at (bits_of bytes))
     turn = inv.same ∙ ap (λ (k : ℕ). read_bases k (take i bases) (drop at (bits_of bytes))) (omega arith)
 
-    pub bases_short : r ≡ true → BasesStop bytes axes 1
-    bases_short t = bases_refused bytes axes 0 (turn ∙ short_base _ _ _ (sym er ∙ t))
+    pub bases_short : r ≡ true → bases_reading bytes axes ≡ refuse 1
+    bases_short t = turn ∙ short_base _ _ _ (sym er ∙ t)
 
     module _ (tr : r ≡ false) {v : ℕ} (ev : v ≡ field_at bytes at 8) where
-      pub bases_one : v ≡ 0 → BasesStop bytes axes 4
-      bases_one z = bases_refused bytes axes 3 (turn ∙ bad_base _ _ _ v (sym er ∙ tr) (field_value bytes at 8 ev) z)
+      pub bases_one : v ≡ 0 → bases_reading bytes axes ≡ refuse 4
+      bases_one z = turn ∙ bad_base _ _ _ v (sym er ∙ tr) (field_value bytes at 8 ev) z
 
       module _ (nz : v ≡ 0 → ⊥) {q : Bool} (eq : q ≡ shares_factor (v + 1) (take i bases)) where
-        pub bases_common : q ≡ true → BasesStop bytes axes 5
-        bases_common t = bases_refused bytes axes 4 (turn ∙ common_factor _ _ _ v (sym er ∙ tr) (field_value bytes at 8 ev) nz (sym eq ∙ t))
+        pub bases_common : q ≡ true → bases_reading bytes axes ≡ refuse 5
+        bases_common t = turn ∙ common_factor _ _ _ v (sym er ∙ tr) (field_value bytes at 8 ev) nz (sym eq ∙ t)
 
         pub bases_next : q ≡ false → {b : ℕ} → b ≡ v + 1 → BasesLoop bytes axes (set bases i b) (at + 8) (i + 1)
         bases_next t {b} eb =

@@ -9,21 +9,26 @@ ghost use Rattle.big_endian.specs.Bytes.{word_bytes};
 ghost use Rattle.hisowake.specs.Calls.{point_code, point_bytes, is_window_bytes, answers_of, count_code, count_bytes};
 
 use plan::PlanRead;
+use points::PlanAxes;
 
 // Writes the point of index `n` of a plan that the reader accepted.
 fn put_point(out: &mut [u8], a: PlanRead, n: u64)
     requires { Accepted a × (n < 2 ^ 32) × (8 * a.axes ≤ length out.old) }
     ensures { out.new ≡ word_bytes (point_of (plan_answered a) n) ++ drop (8 * a.axes) out.old }
 {
-    let axes = a.axes;
-    let bases = a.bases;
     let directions = state::plan_directions(a);
+    let p = PlanAxes {
+        family: a.family,
+        axes: a.axes,
+        bases: &a.bases,
+        directions: &directions,
+    };
     let zeros = [0u64; 6];
-    let x = points::point(a.family, axes, &bases, &directions, &zeros, n);
-    big_endian::put_words(out, &x[..axes]);
+    let x = points::point(p, &zeros, n);
+    big_endian::put_words(out, &x[..a.axes]);
 }
 
-// Writes the point of any index to the front of `out`: 8 bytes an axis, most significant first. Answers 0 or the refusal's number.
+// Writes the point of any index to the front of `out`: 8 bytes an axis, most significant first. Answers 0 or the refusal's number, as C has it.
 pub fn hisowake_point(plan: &[u8], index: u64, out: &mut [u8]) -> u64
     ensures { (result ≡ point_code plan.now index out.old) × (out.new ≡ point_bytes plan.now index out.old) }
 {
@@ -57,27 +62,23 @@ fn put_count(out: &mut [u8], a: PlanRead, start: u64, count: u64, window: &[u8])
     requires { Accepted a × (start_in_range start count ≡ true) × (is_window_bytes window.now a.axes ≡ true) × (16 ≤ length out.old) }
     ensures { out.new ≡ word_bytes (answers_of (plan_answered a) start count window.now) ++ drop 16 out.old }
 {
-    let axes = a.axes;
-    let bases = a.bases;
     let directions = state::plan_directions(a);
-    let w = big_endian::window_numbers(window, axes);
-    let end = 2 * axes;
+    let p = PlanAxes {
+        family: a.family,
+        axes: a.axes,
+        bases: &a.bases,
+        directions: &directions,
+    };
+    let w = big_endian::window_numbers(window, a.axes);
+    let end = 2 * a.axes;
     let ns = [start; 6];
-    let inside = inside_count::count_inside(
-        a.family,
-        axes,
-        &bases,
-        &directions,
-        &ns,
-        count as usize,
-        &w[..end],
-    );
-    let bound = window::bound(a.family, axes, &bases, &directions, count);
+    let inside = inside_count::count_inside(p, &ns, count as usize, &w[..end]);
+    let bound = window::bound(p, count);
     big_endian::put_words(out, &[inside, bound]);
 }
 
 // Writes S, how many points of the run are inside the window, and the bound of demand 3 to the front of `out`: 8 bytes each, most significant first.
-// The window has u and then q for each axis, 4 bytes each, likewise. Answers 0 or the refusal's number.
+// The window has u and then q for each axis, 4 bytes each, likewise. Answers 0 or the refusal's number, as C has it.
 pub fn hisowake_window_count(
     plan: &[u8],
     start: u64,

@@ -1,5 +1,5 @@
 -- A part of a table doubled in place, one place more a turn; and the tables that come of it. Assumes nothing.
-use mathlib.Core.Path.{◌≡◌, refl, sym, ap, ◌∙◌}
+use mathlib.Core.Path.{◌≡◌, sym, ap, ◌∙◌}
 use mathlib.Core.Logic.{⊎_elim}
 use mathlib.Core.List.{List}
 use Prim.Native.Nat.{ℕ, ◌+◌, ◌-◌, ◌*◌, ◌<◌, ◌≤◌}
@@ -9,14 +9,6 @@ use lib.Seq.{get_or-set_same, get_or-set_other}
 use Rattle.numbers.specs.Listed.{Begins}
 use Rattle.numbers.proofs.Cases.{lt_or_ge, eq_or_ne}
 use Rattle.images.specs.Doubled.{Small, Doubled}
-
-pub doubled_none : (a s : ℕ) (l : List ℕ) → Doubled a a s l l
-doubled_none a s l = record {
-  low = λ j p q. absurd (omega arith);
-  high = λ j p q. absurd (omega arith);
-  before = λ j p. refl;
-  between = λ j p q. refl;
-}
 
 module _ {a k s : ℕ} {old l : List ℕ} (r : Doubled a k s old l) where
   -- the next number is still to be read
@@ -46,10 +38,6 @@ module _ {a k s : ℕ} {old l : List ℕ} (r : Doubled a k s old l) where
 
       next : (j m : ℕ) → j < m + 1 → (j ≡ m → ⊥) → j < m
       next j m v n = ⊎_elim (λ h. h) (λ h. absurd (n (omega arith))) (lt_or_ge j m)
-
--- the same end under another name
-pub doubled_as : {a k e s : ℕ} {old l : List ℕ} → Doubled a k s old l → k ≡ e → Doubled a e s old l
-doubled_as r same = rw (← same) r
 
 -- ---- a table of images under σ, made one of images under τ
 

@@ -8,7 +8,7 @@ use lib.ListN.{length, get_or, set, length-set}
 use lib.Seq.{get_or-set_same, get_or-set_other}
 use Rattle.numbers.specs.Listed.{Begins}
 use Rattle.numbers.proofs.Cases.{lt_or_ge, eq_or_ne}
-use Rattle.numbers.proofs.ListedLaws.{begins_none, begins_more, begins_kept}
+use Rattle.numbers.proofs.ListedLaws.{begins_more, begins_kept}
 
 -- ---- the halves of a table under τ, made in place from a table of h images under σ. The upper half starts at s.
 
@@ -17,9 +17,6 @@ pub record Halves (σ τ : ℕ → ℕ) (h s k : ℕ) (l : List ℕ) : Type 0 wh
   pub low : Begins τ k l
   pub high : (j : ℕ) → j < k → get_or l (s + j) 0 ≡ τ (s + j)
   pub rest : (j : ℕ) → k ≤ j → j < h → get_or l j 0 ≡ σ j
-
-pub halves_none : {σ : ℕ → ℕ} {h : ℕ} {l : List ℕ} (τ : ℕ → ℕ) (s : ℕ) → Begins σ h l → Halves σ τ h s 0 l
-halves_none τ s a = record { low = begins_none τ _; high = λ j q. absurd (omega arith); rest = λ j p q. a.at j q }
 
 module _ {σ τ : ℕ → ℕ} {h s k : ℕ} {l : List ℕ} (a : Halves σ τ h s k l) where
   -- one entry more in each half

@@ -14,10 +14,8 @@ fn plain_images(b: usize, l: &mut [u8])
     requires { (b ≤ 256) × (256 ≤ length l.old) }
     ensures { Begins (image_of 0 b) b l.new }
 {
-    let mut d = 0;
-    while d < b {
+    for d in 0..b {
         l[d] = d as u8;
-        d += 1;
     }
 }
 
@@ -26,13 +24,11 @@ fn double_part(a: usize, e: usize, s: usize, l: &mut [u8])
     requires { (a ≤ e) × (e ≤ s + a) × (s + e ≤ 256) × (256 ≤ length l.old) × Small a e l.old }
     ensures { Doubled a e s l.old l.new }
 {
-    let mut k = a;
-    while k < e {
+    for k in a..e {
         let lower = 2 * l[k];
         let upper = lower + 1;
         l[k] = lower;
         l[s + k] = upper;
-        k += 1;
     }
 }
 
@@ -50,14 +46,12 @@ fn odd_images(b: usize, l: &mut [u8])
     ensures { Begins (faure b) b l.new }
 {
     let c = b / 2;
-    let mut k = 0;
-    while k < c {
+    for k in 0..c {
         let x = 2 * l[k];
         let low = raise(c as u8, x);
         let high = raise(c as u8, x + 1);
         l[k] = low;
         l[c + 1 + k] = high;
-        k += 1;
     }
     l[c] = c as u8;
 }

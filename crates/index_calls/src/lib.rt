@@ -6,23 +6,14 @@ ghost use Rattle.calls.specs.Calls.{jump_spec, jump_buf, slotted, has_slots, slo
 
 use calls::{Jumped, SecondOfDay, Slotted};
 use plan::refusal;
+use points::PlanAxes;
 use state::Sampler;
 
 // Writes the point of any index to the front of `out`.
 pub fn jump(s: Sampler, n: u64, out: &mut [u64]) -> Jumped
     ensures { (result ≡ jump_spec s n out.old) × (out.new ≡ jump_buf s n out.old) }
 {
-    if !genuine::is_genuine(
-        s.family,
-        s.axes,
-        &s.bases,
-        &s.polynomials,
-        &s.directions,
-        &s.starts,
-        s.count,
-        s.taken,
-        &s.numerators,
-    ) {
+    if !genuine::is_genuine(&s) {
         return Jumped {
             code: refusal::INVALID_STATE,
         };
@@ -39,7 +30,13 @@ pub fn jump(s: Sampler, n: u64, out: &mut [u64]) -> Jumped
         };
     }
     let zeros = [0u64; 6];
-    let x = points::point(s.family, axes, &s.bases, &s.directions, &zeros, n);
+    let p = PlanAxes {
+        family: s.family,
+        axes: s.axes,
+        bases: &s.bases,
+        directions: &s.directions,
+    };
+    let x = points::point(p, &zeros, n);
     bits::store(out, 0, &x[..axes]);
     Jumped { code: 0 }
 }
@@ -79,17 +76,7 @@ fn no_slot(code: u64) -> Slotted
 pub fn slot(s: Sampler, n: u64, axis: u64, slots: u64) -> Slotted
     ensures { result ≡ slot_spec s n axis slots }
 {
-    if !genuine::is_genuine(
-        s.family,
-        s.axes,
-        &s.bases,
-        &s.polynomials,
-        &s.directions,
-        &s.starts,
-        s.count,
-        s.taken,
-        &s.numerators,
-    ) {
+    if !genuine::is_genuine(&s) {
         return no_slot(refusal::INVALID_STATE);
     }
     if n >= numbers::INDEXES {

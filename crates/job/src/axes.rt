@@ -4,6 +4,15 @@ ghost use Rattle.std.specs.Prelude.{◌≤◌, length};
 use crate::run::two_numbers;
 use crate::{Job, error};
 
+// Two axes to draw, from 1 or 0 for a day set's leading axis; whether the time of day goes along axis 1, and the number of the line that says so.
+#[derive(Clone, Copy)]
+pub struct Axes {
+    pub x: u64,
+    pub y: u64,
+    pub is_time: bool,
+    pub line: u64,
+}
+
 // The axes X and Y in force, with the time of day along axis 1 if `is_time`.
 fn put_axes(j: Job, out: &mut [u8], x: u64, y: u64, is_time: bool) -> Job {
     if 6 < x {
@@ -16,11 +25,12 @@ fn put_axes(j: Job, out: &mut [u8], x: u64, y: u64, is_time: bool) -> Job {
         return error(j, out, b"expected X or Y to be 1, the axis of the time");
     }
     let mut next = j;
-    next.has_axes = true;
-    next.x = x;
-    next.y = y;
-    next.is_time = is_time;
-    next.axes_at = j.line;
+    next.axes = Some(Axes {
+        x,
+        y,
+        is_time,
+        line: j.line,
+    });
     next
 }
 
@@ -31,7 +41,7 @@ fn is_time(text: &[u8], from: usize) -> bool
     let w = words::find(text, from);
     let start = w.start;
     let end = w.end;
-    check::same(&text[start..end], b"time")
+    &text[start..end] == b"time".as_slice()
 }
 
 // A line `axes X Y` or `axes X Y time`, from after its first word on. In error, it leaves no axes in force.
@@ -39,15 +49,15 @@ pub fn axes_line(j: Job, out: &mut [u8], text: &[u8], from: usize) -> Job
     requires { from ≤ length text.now }
 {
     let mut none = j;
-    none.has_axes = false;
+    none.axes = None;
     let words = words::count(text, from);
     if words != 2 && words != 3 {
         return error(none, out, b"expected axes X Y or axes X Y time");
     }
-    let t = two_numbers(none, out, text, from, b"X", b"Y");
-    if !t.is_good {
-        return t.job;
-    }
+    let t = match two_numbers(none, out, text, from, b"X", b"Y") {
+        Ok(t) => t,
+        Err(failed) => return failed,
+    };
     if words == 2 {
         return put_axes(none, out, t.first, t.second, false);
     }

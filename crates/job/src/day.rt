@@ -1,9 +1,8 @@
 // A line `day N`.
 ghost use Rattle.std.specs.Prelude.{◌≤◌, length};
 
-use crate::run::number_error;
+use crate::run::{Run, named_number};
 use crate::{Job, error};
-use words::Number;
 
 // Makes the day set of `size` points.
 fn make(j: Job, out: &mut [u8], size: u64) -> Job {
@@ -15,9 +14,10 @@ fn make(j: Job, out: &mut [u8], size: u64) -> Job {
     let set = r.set;
     let t = set.run;
     let mut next = j;
-    next.has_run = true;
-    next.is_day = true;
-    next.run_at = j.line;
+    next.run = Some(Run {
+        is_day: true,
+        line: j.line,
+    });
     next.state = t;
     next
 }
@@ -27,7 +27,7 @@ pub fn day_line(j: Job, out: &mut [u8], text: &[u8], from: usize) -> Job
     requires { from ≤ length text.now }
 {
     let mut none = j;
-    none.has_run = false;
+    none.run = None;
     if !j.has_plan {
         return error(none, out, b"expected a plan before the day set");
     }
@@ -37,9 +37,9 @@ pub fn day_line(j: Job, out: &mut [u8], text: &[u8], from: usize) -> Job
     let w = words::find(text, from);
     let start = w.start;
     let end = w.end;
-    let n = words::decimal(&text[start..end]);
-    let Number::Value(size) = n else {
-        return number_error(none, out, n, b"N");
+    let size = match named_number(none, out, &text[start..end], b"N") {
+        Ok(n) => n,
+        Err(failed) => return failed,
     };
     make(none, out, size)
 }

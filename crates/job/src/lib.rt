@@ -9,21 +9,21 @@ mod plans;
 mod report;
 mod run;
 
-ghost use Rattle.std.specs.Prelude.{◌<◌, ◌≤◌, length};
+ghost use Rattle.std.specs.Prelude.{◌≤◌, length};
 
-pub use axes::axes_line;
+pub use axes::{Axes, axes_line};
 pub use day::day_line;
 use lines::Lines;
 pub use plans::plan_line;
 pub use report::{end, end_number, error, fail, more_errors, say, say_between};
-pub use run::run_line;
+pub use run::{Run, run_line};
 use sampler::Sampler;
 use std::rt::Stdin;
 
 // What the lines so far leave: the input and the output; whether errors are texts of a picture; the number of the line at hand, how many lines
-// were in error, and whether the error at hand is not shown; whether a plan is in force, whether a run or a day set of it is, and whether that is a
-// day set, the sampler that has them, and the number of the run's or the day set's line; whether axes to draw are given, which two, from 1 or 0 for
-// a day set's leading axis, whether the time of day goes along axis 1, and the number of the line that says so.
+// were in error, and whether the error at hand is not shown; whether a plan is in force, which run or day set of it is, and the sampler that has them;
+// and which axes to draw.
+// The sampler is no Option: it has 1.7 KiB, and what comes after the test that a plan is in force reads it in its place.
 #[derive(Clone, Copy)]
 pub struct Job {
     pub lines: Lines,
@@ -32,15 +32,9 @@ pub struct Job {
     pub errors: u64,
     pub is_quiet: bool,
     pub has_plan: bool,
-    pub has_run: bool,
-    pub is_day: bool,
     pub state: Sampler,
-    pub run_at: u64,
-    pub has_axes: bool,
-    pub x: u64,
-    pub y: u64,
-    pub is_time: bool,
-    pub axes_at: u64,
+    pub run: Option<Run>,
+    pub axes: Option<Axes>,
 }
 
 // Before the first line.
@@ -52,15 +46,17 @@ pub fn new(is_picture: bool) -> Job {
         errors: 0,
         is_quiet: false,
         has_plan: false,
-        has_run: false,
-        is_day: false,
         state: sampler::blank_state(),
-        run_at: 0,
-        has_axes: false,
-        x: 0,
-        y: 0,
-        is_time: false,
-        axes_at: 0,
+        run: None,
+        axes: None,
+    }
+}
+
+// Whether a day set is in force.
+pub fn is_day(j: Job) -> bool {
+    match j.run {
+        Some(run) => run.is_day,
+        None => false,
     }
 }
 
@@ -77,14 +73,6 @@ pub fn read(stdin: Stdin, j: Job, chunk: &mut [u8], line: &mut [u8], out: &mut [
     next
 }
 
-// How many turns the loop over the lines has left: none once there is no line. A proved loop has to end, and nothing says that the input does.
-pub fn turns_left(j: Job, turns: u64) -> u64
-    requires { 0 < turns }
-    ensures { result < turns }
-{
-    if j.lines.is_over { 0 } else { turns - 1 }
-}
-
 // A line of which only the first 1,024 bytes were kept. If it was to give a plan, a run, a day set or axes, that is not in force.
 pub fn too_long(j: Job, out: &mut [u8], text: &[u8]) -> Job {
     let w = words::find(text, 0);
@@ -92,18 +80,18 @@ pub fn too_long(j: Job, out: &mut [u8], text: &[u8]) -> Job {
     let end = w.end;
     let key = &text[start..end];
     let mut next = j;
-    if check::same(key, b"plan") {
+    if key == b"plan".as_slice() {
         next.has_plan = false;
-        next.has_run = false;
+        next.run = None;
     }
-    if check::same(key, b"run") {
-        next.has_run = false;
+    if key == b"run".as_slice() {
+        next.run = None;
     }
-    if check::same(key, b"day") {
-        next.has_run = false;
+    if key == b"day".as_slice() {
+        next.run = None;
     }
-    if check::same(key, b"axes") {
-        next.has_axes = false;
+    if key == b"axes".as_slice() {
+        next.axes = None;
     }
     error(
         next,

@@ -3,6 +3,7 @@ ghost use Rattle.std.specs.Prelude.{◌≤◌, length};
 
 use crate::report::refusal;
 use crate::{Job, end_number, error, fail, say, say_between};
+use plan::PlanFields;
 use plan_check::Fault;
 
 // The remark that begins with a text, and has the words of a plan.
@@ -15,11 +16,15 @@ fn remark_words(j: Job, out: &mut [u8], begin: &[u8], words: &[u8], end: &[u8]) 
 // Says in a remark what plan the bytes are, in words; in a picture it is a comment of the file.
 fn remark(j: Job, out: &mut [u8], bytes: &[u8]) -> Job {
     let a = reader::read_plan(bytes);
-    let bases = a.bases;
-    let polynomials = a.polynomials;
-    let ms = a.ms;
+    let p = PlanFields {
+        family: a.family,
+        axes: a.axes,
+        bases: &a.bases,
+        polynomials: &a.polynomials,
+        ms: &a.ms,
+    };
     let mut text = [0u8; 512];
-    let n = plan_text::put_words(&mut text, a.family, a.axes, &bases, &polynomials, &ms);
+    let n = plan_text::put_words(&mut text, p);
     if j.is_picture {
         return remark_words(j, out, b"<!-- line ", &text[..n], b" -->\n");
     }
@@ -60,13 +65,10 @@ fn build_plan(j: Job, out: &mut [u8], line: &[u8], from: usize) -> Job
     requires { from ≤ length line.now }
 {
     let mut bytes = [0u8; 71];
-    let b = plan_builder::build(line, from, &mut bytes);
-    if b.fault.code != 0 {
-        let fault = b.fault;
-        return wrong_words(j, out, fault);
+    match plan_builder::build(line, from, &mut bytes) {
+        Ok(len) => take_plan(j, out, &bytes[..len]),
+        Err(fault) => wrong_words(j, out, fault),
     }
-    let len = b.len;
-    take_plan(j, out, &bytes[..len])
 }
 
 // ---- in bytes
@@ -110,14 +112,14 @@ pub fn plan_line(j: Job, out: &mut [u8], text: &[u8], from: usize) -> Job
 {
     let mut none = j;
     none.has_plan = false;
-    none.has_run = false;
+    none.run = None;
     let w = words::find(text, from);
     let start = w.start;
     let end = w.end;
     if words::count(text, from) != 1 {
         return build_plan(none, out, text, from);
     }
-    if plan_words::family_of(&text[start..end]) != 4 {
+    if plan_words::family_of(&text[start..end]).is_some() {
         return build_plan(none, out, text, from);
     }
     read_plan(none, out, text, start, end)

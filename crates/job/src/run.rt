@@ -1,14 +1,14 @@
 // A line `run START .. COUNT`, and the two numbers of a line.
-ghost use Rattle.std.specs.Prelude.{◌≡◌, ◌≤◌, length};
+ghost use Rattle.std.specs.Prelude.{◌≡◌, ◌≤◌, IfOk, length};
 
 use crate::{Job, end, error, fail, say, say_between};
-use words::Number;
+use words::NumberError;
 
 // Ends an error with what was expected of a number.
-fn end_expected(j: Job, out: &mut [u8], n: Number) -> Job {
-    match n {
-        Number::TooLarge => end(j, out, b" to be at most 18446744073709551615"),
-        _ => end(j, out, b" to be a decimal number"),
+fn end_expected(j: Job, out: &mut [u8], e: NumberError) -> Job {
+    match e {
+        NumberError::TooLarge => end(j, out, b" to be at most 18446744073709551615"),
+        NumberError::NotDecimal => end(j, out, b" to be a decimal number"),
     }
 }
 
@@ -19,36 +19,26 @@ fn expected(j: Job, out: &mut [u8], name: &[u8]) -> Job {
     say(said, out, name)
 }
 
-// Not the number that was expected.
-pub fn number_error(j: Job, out: &mut [u8], n: Number, name: &[u8]) -> Job {
-    let begun = expected(j, out, name);
-    end_expected(begun, out, n)
+// The number that a word spells, or the job with the error that it spells none, by the number's name.
+pub fn named_number(j: Job, out: &mut [u8], word: &[u8], name: &[u8]) -> Result<u64, Job> {
+    match words::decimal(word) {
+        Ok(n) => Ok(n),
+        Err(e) => {
+            let begun = expected(j, out, name);
+            Err(end_expected(begun, out, e))
+        }
+    }
 }
 
-// Two numbers that a line has and the place after them, or the job with the error that it has none.
+// Two numbers that a line has, and the place after them.
 #[derive(Clone, Copy)]
 pub struct Two {
-    pub job: Job,
-    pub is_good: bool,
     pub first: u64,
     pub second: u64,
     pub end: usize,
 }
 
-// No two numbers.
-fn not_two(j: Job) -> Two
-    ensures { result.end ≡ 0 }
-{
-    Two {
-        job: j,
-        is_good: false,
-        first: 0,
-        second: 0,
-        end: 0,
-    }
-}
-
-// The first two words from `from` on, as numbers, of which `first` and `second` are the names.
+// The first two words from `from` on, as numbers, of which `first` and `second` are the names; or the job with the error that one is none.
 pub fn two_numbers(
     j: Job,
     out: &mut [u8],
@@ -56,34 +46,33 @@ pub fn two_numbers(
     from: usize,
     first: &[u8],
     second: &[u8],
-) -> Two
+) -> Result<Two, Job>
     requires { from ≤ length text.now }
-    ensures { result.end ≤ length text.now }
+    ensures { IfOk result (λ t. t.end ≤ length text.now) }
 {
     let w = words::find(text, from);
     let a = w.start;
     let e = w.end;
-    let one = words::decimal(&text[a..e]);
-    let Number::Value(m) = one else {
-        return not_two(number_error(j, out, one, first));
-    };
+    let m = named_number(j, out, &text[a..e], first)?;
     let v = words::find(text, e);
     let b = v.start;
     let f = v.end;
-    let two = words::decimal(&text[b..f]);
-    let Number::Value(n) = two else {
-        return not_two(number_error(j, out, two, second));
-    };
-    Two {
-        job: j,
-        is_good: true,
+    let n = named_number(j, out, &text[b..f], second)?;
+    Ok(Two {
         first: m,
         second: n,
         end: f,
-    }
+    })
 }
 
 // ---- the run
+
+// What is in force of a plan: whether it is a day set and no run, and the number of the line that says so.
+#[derive(Clone, Copy)]
+pub struct Run {
+    pub is_day: bool,
+    pub line: u64,
+}
 
 // Why an opening was refused: 17 is of a Sobol plan, since there is one start for each axis.
 fn refused(j: Job, out: &mut [u8], code: u64) -> Job {
@@ -110,9 +99,10 @@ fn open(j: Job, out: &mut [u8], starts: &[u64], count: u64) -> Job {
     }
     let t = r.state;
     let mut next = j;
-    next.has_run = true;
-    next.is_day = false;
-    next.run_at = j.line;
+    next.run = Some(Run {
+        is_day: false,
+        line: j.line,
+    });
     next.state = t;
     next
 }
@@ -121,79 +111,62 @@ fn open(j: Job, out: &mut [u8], starts: &[u64], count: u64) -> Job {
 fn one_start(j: Job, out: &mut [u8], text: &[u8], from: usize, axes: usize) -> Job
     requires { (from ≤ length text.now) × (axes ≤ 6) }
 {
-    let t = two_numbers(j, out, text, from, b"START", b"COUNT");
-    if !t.is_good {
-        return t.job;
-    }
+    let t = match two_numbers(j, out, text, from, b"START", b"COUNT") {
+        Ok(t) => t,
+        Err(failed) => return failed,
+    };
     let starts = [t.first; 6];
     open(j, out, &starts[0..axes], t.second)
 }
 
-// The starts that a line has and the place after them, or the job with the error that one is no number.
+// The starts that a line has, and the place after them.
 #[derive(Clone, Copy)]
 struct Starts {
-    job: Job,
-    is_good: bool,
     starts: [u64; 6],
     end: usize,
 }
 
 // Not the start of an axis, from 1, that was expected.
-fn no_start(j: Job, out: &mut [u8], n: Number, axis: u64) -> Starts
-    ensures { (result.end ≡ 0) × (length result.starts ≡ 6) }
-{
+fn no_start(j: Job, out: &mut [u8], e: NumberError, axis: u64) -> Job {
     let begun = fail(j, out);
     let placed = say_between(begun, out, b"axis ", axis, b": expected START");
-    Starts {
-        job: end_expected(placed, out, n),
-        is_good: false,
-        starts: [0; 6],
-        end: 0,
-    }
+    end_expected(placed, out, e)
 }
 
-// The first words from `from` on, as the starts of so many axes.
-fn read_starts(j: Job, out: &mut [u8], text: &[u8], from: usize, axes: usize) -> Starts
+// The first words from `from` on, as the starts of so many axes; or the job with the error that one is no number.
+fn read_starts(j: Job, out: &mut [u8], text: &[u8], from: usize, axes: usize) -> Result<Starts, Job>
     requires { (from ≤ length text.now) × (axes ≤ 6) }
-    ensures { (result.end ≤ length text.now) × (length result.starts ≡ 6) }
+    ensures { IfOk result (λ r. (r.end ≤ length text.now) × (length r.starts ≡ 6)) }
 {
     let mut starts = [0u64; 6];
     let mut at = from;
-    let mut i = 0;
-    while i < axes {
+    for i in 0..axes {
         let w = words::find(text, at);
         let a = w.start;
         let e = w.end;
-        let n = words::decimal(&text[a..e]);
-        let Number::Value(start) = n else {
-            return no_start(j, out, n, i as u64 + 1);
+        starts[i] = match words::decimal(&text[a..e]) {
+            Ok(n) => n,
+            Err(why) => return Err(no_start(j, out, why, i as u64 + 1)),
         };
-        starts[i] = start;
         at = e;
-        i += 1;
     }
-    Starts {
-        job: j,
-        is_good: true,
-        starts,
-        end: at,
-    }
+    Ok(Starts { starts, end: at })
 }
 
 // The run of the numbers START .. COUNT from `from` on: each axis has a start of its own.
 fn own_starts(j: Job, out: &mut [u8], text: &[u8], from: usize, axes: usize) -> Job
     requires { (from ≤ length text.now) × (axes ≤ 6) }
 {
-    let r = read_starts(j, out, text, from, axes);
-    if !r.is_good {
-        return r.job;
-    }
+    let r = match read_starts(j, out, text, from, axes) {
+        Ok(r) => r,
+        Err(failed) => return failed,
+    };
     let w = words::find(text, r.end);
     let a = w.start;
     let e = w.end;
-    let n = words::decimal(&text[a..e]);
-    let Number::Value(count) = n else {
-        return number_error(j, out, n, b"COUNT");
+    let count = match named_number(j, out, &text[a..e], b"COUNT") {
+        Ok(n) => n,
+        Err(failed) => return failed,
     };
     let starts = r.starts;
     open(j, out, &starts[0..axes], count)
@@ -225,7 +198,7 @@ pub fn run_line(j: Job, out: &mut [u8], text: &[u8], from: usize) -> Job
     requires { from ≤ length text.now }
 {
     let mut none = j;
-    none.has_run = false;
+    none.run = None;
     if !j.has_plan {
         return error(none, out, b"expected a plan before the run");
     }

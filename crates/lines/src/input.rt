@@ -2,7 +2,7 @@
 ghost use Rattle.std.specs.Prelude.{◌≡◌, ◌+◌, ◌≤◌, min, length};
 ghost use Rattle.lines.specs.Kept.{Kept};
 
-use crate::{Lines, flush, least};
+use crate::{Lines, flush};
 use std::io::Read;
 use std::rt::Stdin;
 
@@ -28,7 +28,7 @@ fn keep(line: &mut [u8], size: usize, b: u8) -> usize
 fn has_mark(line: &[u8]) -> bool
     requires { 1024 ≤ length line.now }
 {
-    check::same(&line[0..3], b"\xef\xbb\xbf")
+    &line[0..3] == b"\xef\xbb\xbf".as_slice()
 }
 
 // Takes the next byte of a line, which is no newline. A byte order mark that begins the input is dropped once its third byte is there.
@@ -61,20 +61,18 @@ fn take_byte(l: Lines, line: &mut [u8], b: u8) -> Lines
 fn take(l: Lines, chunk: &[u8], line: &mut [u8]) -> Lines
     requires { 1024 ≤ length line.old }
 {
-    let end = least(l.filled, chunk.len());
+    let end = l.filled.min(chunk.len());
     let mut next = l;
-    let mut i = l.at;
-    while i < end {
+    for i in l.at..end {
         let b = chunk[i];
-        i += 1;
         if b == b'\n' {
-            next.at = i;
+            next.at = i + 1;
             next.has_ended = true;
             return next;
         }
         next = take_byte(next, line, b);
     }
-    next.at = i;
+    next.at = end;
     next
 }
 
@@ -164,15 +162,14 @@ fn begin(l: Lines) -> Lines {
 }
 
 // Reads the next line, without its newline, its comment and a carriage return at its end; the last line may have no newline. An empty chunk
-// would make any input look ended. A proved loop has to end, and nothing says that the input does: so the loop counts its turns down, from
-// a number that no run uses up.
+// would make any input look ended. A proved loop has to end, and nothing says that the input does: so the loop has a number of turns that no
+// run uses up.
 pub fn next(stdin: Stdin, l: Lines, chunk: &mut [u8], line: &mut [u8], out: &[u8]) -> Lines
     requires { (1 ≤ length chunk.old) × (1024 ≤ length line.old) }
     ensures { result.size ≤ 1025 }
 {
     let mut now = begin(l);
-    let mut turns = u64::MAX;
-    while turns > 0 {
+    for _ in 0..u64::MAX {
         now = take(now, chunk, line);
         if now.has_ended {
             return whole(now, line);
@@ -181,7 +178,6 @@ pub fn next(stdin: Stdin, l: Lines, chunk: &mut [u8], line: &mut [u8], out: &[u8
         if now.filled == 0 {
             return last_line(now, line);
         }
-        turns -= 1;
     }
     over(now, true)
 }
@@ -191,6 +187,6 @@ pub fn text(l: Lines, line: &[u8]) -> &[u8]
     requires { 1024 ≤ length line.now }
     ensures { length result.now ≡ min l.size 1024 }
 {
-    let end = least(l.size, 1024);
+    let end = l.size.min(1024);
     &line[0..end]
 }

@@ -5,7 +5,7 @@
 mod input;
 mod output;
 
-ghost use Rattle.std.specs.Prelude.{◌≡◌, min};
+ghost use Rattle.std.specs.Prelude.{◌≡◌};
 
 pub use input::{next, text};
 pub use output::{finish, flush, put, put_between, put_hex, put_number};
@@ -44,11 +44,4 @@ pub fn start() -> Lines
         used: 0,
         is_lost: false,
     }
-}
-
-// The lesser of two numbers.
-fn least(a: usize, b: usize) -> usize
-    ensures { result ≡ min a b }
-{
-    if a < b { a } else { b }
 }

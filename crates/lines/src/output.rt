@@ -2,7 +2,7 @@
 ghost use Rattle.std.specs.Prelude.{◌≡◌};
 ghost use Rattle.lines.specs.Put.{Put};
 
-use crate::{Lines, least};
+use crate::Lines;
 
 const STDOUT_FILENO: i32 = 1;
 
@@ -24,7 +24,7 @@ fn write(l: Lines, text: &[u8]) -> Lines
 pub fn flush(l: Lines, out: &[u8]) -> Lines
     ensures { result.used ≡ 0 }
 {
-    let n = least(l.used, out.len());
+    let n = l.used.min(out.len());
     let mut next = write(l, &out[0..n]);
     next.used = 0;
     next
@@ -34,7 +34,7 @@ pub fn flush(l: Lines, out: &[u8]) -> Lines
 pub fn put(l: Lines, out: &mut [u8], text: &[u8]) -> Lines
     ensures { Put l out.old text.now result out.new }
 {
-    let used = least(l.used, out.len());
+    let used = l.used.min(out.len());
     if text.len() <= out.len() - used {
         let mut more = l;
         more.used = text::put(out, used, text);
@@ -73,10 +73,8 @@ fn put_hex_byte(l: Lines, out: &mut [u8], b: u8) -> Lines {
 // Puts bytes in hexadecimal, two digits each.
 pub fn put_hex(l: Lines, out: &mut [u8], bytes: &[u8]) -> Lines {
     let mut next = l;
-    let mut i = 0;
-    while i < bytes.len() {
-        next = put_hex_byte(next, out, bytes[i]);
-        i += 1;
+    for b in bytes {
+        next = put_hex_byte(next, out, *b);
     }
     next
 }

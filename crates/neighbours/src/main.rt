@@ -71,8 +71,7 @@ fn together(first: Sampler, neighbour: Sampler, shown: u64) -> u64 {
     let mut a = first;
     let mut b = neighbour;
     let mut met = 0;
-    let mut t = 0;
-    while t < STEPS {
+    for t in 0..STEPS {
         if t < shown {
             say_step(t, a, b);
         }
@@ -81,7 +80,6 @@ fn together(first: Sampler, neighbour: Sampler, shown: u64) -> u64 {
         }
         a = stepped(a);
         b = stepped(b);
-        t += 1;
     }
     met
 }

@@ -43,10 +43,8 @@ pub fn power(b: u64, k: u64) -> u64
     ensures { result ≡ b ^ k }
 {
     let mut p = 1;
-    let mut i = 0;
-    while i < k {
+    for i in 0..k {
         p = p * b;
-        i = i + 1;
     }
     p
 }

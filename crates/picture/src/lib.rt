@@ -3,7 +3,7 @@
 
 ghost use Rattle.std.specs.Prelude.{◌≡◌, ◌≤◌, length};
 
-use job::Job;
+use job::{Axes, Job, Run};
 use lines::Lines;
 use std::rt::Stdin;
 use svg::Drawing;
@@ -56,20 +56,22 @@ fn window_line(
 {
     let windows = p.windows;
     let more_at = p.more_at;
-    let r = window_lines::window_line(p.job, out, text, from);
-    let j = r.job;
-    if !r.is_good {
-        return Wanted {
-            job: j,
-            windows,
-            more_at,
-        };
-    }
+    let job = p.job;
+    let r = match window_lines::window_line(job, out, text, from) {
+        Ok(r) => r,
+        Err(failed) => {
+            return Wanted {
+                job: failed,
+                windows,
+                more_at,
+            };
+        }
+    };
     if windows == 32 {
         return Wanted {
-            job: j,
+            job,
             windows,
-            more_at: first(more_at, j.line),
+            more_at: first(more_at, job.line),
         };
     }
     let start = r.start;
@@ -77,7 +79,7 @@ fn window_line(
     let cuts = r.cuts;
     keep(windows, cuts, &text[start..end], kept, names);
     Wanted {
-        job: j,
+        job,
         windows: windows + 1,
         more_at,
     }
@@ -95,21 +97,21 @@ fn text_line(p: Wanted, out: &mut [u8], text: &[u8], kept: &mut [u64], names: &m
     if key.len() == 0 {
         return p;
     }
-    if check::same(key, b"plan") {
+    if key == b"plan".as_slice() {
         return afresh(job::plan_line(p.job, out, text, end));
     }
-    if check::same(key, b"run") {
+    if key == b"run".as_slice() {
         return afresh(job::run_line(p.job, out, text, end));
     }
-    if check::same(key, b"day") {
+    if key == b"day".as_slice() {
         return afresh(job::day_line(p.job, out, text, end));
     }
-    if check::same(key, b"window") {
+    if key == b"window".as_slice() {
         return window_line(p, out, text, end, kept, names);
     }
     let windows = p.windows;
     let more_at = p.more_at;
-    if check::same(key, b"axes") {
+    if key == b"axes".as_slice() {
         return Wanted {
             job: job::axes_line(p.job, out, text, end),
             windows,
@@ -163,8 +165,8 @@ fn line(
 }
 
 // Too many points to draw.
-fn too_many(j: Job, out: &mut [u8]) -> Job {
-    if j.is_day {
+fn too_many(j: Job, out: &mut [u8], is_day: bool) -> Job {
+    if is_day {
         return job::error(
             j,
             out,
@@ -175,22 +177,22 @@ fn too_many(j: Job, out: &mut [u8]) -> Job {
 }
 
 // The job, and an error of the run's or the day set's line if there are too many points.
-fn sized(j: Job, out: &mut [u8]) -> Job {
+fn sized(j: Job, out: &mut [u8], run: Run) -> Job {
     let s = j.state;
     if s.count <= 100000 {
         return j;
     }
     let mut at = j;
-    at.line = j.run_at;
-    let mut next = too_many(at, out);
+    at.line = run.line;
+    let mut next = too_many(at, out, run.is_day);
     next.line = j.line;
     next
 }
 
 // Axes that the plan does not have.
-fn no_axes(j: Job, out: &mut [u8], axes: u64) -> Job {
+fn no_axes(j: Job, out: &mut [u8], line: u64, axes: u64) -> Job {
     let mut at = j;
-    at.line = j.axes_at;
+    at.line = line;
     let begun = job::fail(at, out);
     job::end_number(
         begun,
@@ -201,9 +203,9 @@ fn no_axes(j: Job, out: &mut [u8], axes: u64) -> Job {
 }
 
 // Axis 0, but no day set.
-fn no_leading(j: Job, out: &mut [u8]) -> Job {
+fn no_leading(j: Job, out: &mut [u8], line: u64) -> Job {
     let mut at = j;
-    at.line = j.axes_at;
+    at.line = line;
     job::error(
         at,
         out,
@@ -212,41 +214,47 @@ fn no_leading(j: Job, out: &mut [u8]) -> Job {
 }
 
 // Whether axis 0 is to be drawn.
-fn has_leading(j: Job) -> bool {
-    if j.x == 0 {
-        return true;
-    }
-    j.y == 0
+fn has_leading(axes: Axes) -> bool {
+    axes.x == 0 || axes.y == 0
 }
 
-// The job, and an error if there are no axes to draw, or the plan or the day set has no such axes.
-fn with_axes(j: Job, out: &mut [u8]) -> Job {
-    if !j.has_axes {
-        return job::error(j, out, b"expected axes X Y to draw");
-    }
-    if !j.is_day && has_leading(j) {
-        return no_leading(j, out);
+// The job, and an error if the plan or the day set has no such axes.
+fn with_axes(j: Job, out: &mut [u8], run: Run, axes: Axes) -> Job {
+    if !run.is_day && has_leading(axes) {
+        return no_leading(j, out, axes.line);
     }
     let s = j.state;
-    let axes = s.axes as u64;
-    if axes < j.x {
-        return no_axes(j, out, axes);
-    }
-    if axes < j.y {
-        return no_axes(j, out, axes);
+    let all = s.axes as u64;
+    if all < axes.x || all < axes.y {
+        return no_axes(j, out, axes.line, all);
     }
     j
 }
 
-// The job at the input's end, and errors if no line was in error but the run or the axes cannot be drawn.
-fn checked(j: Job, out: &mut [u8]) -> Job {
+// What is drawn: a run or a day set, and two axes.
+#[derive(Clone, Copy)]
+struct Drawn {
+    run: Run,
+    axes: Axes,
+}
+
+// What is drawn at the input's end; or the job with its errors, if a line was in error, or the run or the axes cannot be drawn.
+fn checked(j: Job, out: &mut [u8]) -> Result<Drawn, Job> {
     if j.errors != 0 {
-        return j;
+        return Err(j);
     }
-    if !j.has_run {
-        return job::error(j, out, b"expected a plan and a run or a day set to draw");
+    let Some(run) = j.run else {
+        return Err(job::error(j, out, b"expected a plan and a run or a day set to draw"));
+    };
+    let few = sized(j, out, run);
+    let Some(axes) = j.axes else {
+        return Err(job::error(few, out, b"expected axes X Y to draw"));
+    };
+    let there = with_axes(few, out, run, axes);
+    if there.errors != 0 {
+        return Err(there);
     }
-    with_axes(sized(j, out), out)
+    Ok(Drawn { run, axes })
 }
 
 // Says in a remark that some windows are not drawn, if so.
@@ -267,18 +275,23 @@ fn remark(l: Lines, out: &mut [u8], more_at: u64) -> Lines {
 fn draw(p: Wanted, out: &mut [u8], kept: &[u64], names: &[u8]) -> Lines
     requires { (p.windows ≤ 32) × (448 ≤ length kept.now) × (1024 ≤ length names.now) }
 {
-    let j = checked(p.job, out);
-    if j.errors != 0 {
-        let all = job::more_errors(j, out);
-        return all.lines;
-    }
+    let j = p.job;
+    let drawn = match checked(j, out) {
+        Ok(drawn) => drawn,
+        Err(failed) => {
+            let all = job::more_errors(failed, out);
+            return all.lines;
+        }
+    };
     let s = j.state;
+    let run = drawn.run;
+    let axes = drawn.axes;
     let d = Drawing {
         state: s,
-        is_day: j.is_day,
-        x: j.x,
-        y: j.y,
-        is_time: j.is_time,
+        is_day: run.is_day,
+        x: axes.x,
+        y: axes.y,
+        is_time: axes.is_time,
         windows: p.windows,
     };
     let said = remark(j.lines, out, p.more_at);
@@ -293,7 +306,8 @@ fn end(p: Wanted, out: &mut [u8], kept: &[u64], names: &[u8])
     lines::finish(svg::tail(drawn, out), out);
 }
 
-// The program `plot`: reads a plan, a run or a day set, two axes and windows from standard input, and draws.
+// The program `plot`: reads a plan, a run or a day set, two axes and windows from standard input, and draws. A proved loop has to end, and nothing
+// says that the input does: so the loop over the lines has a number of turns that no run uses up.
 pub fn plot(stdin: Stdin) {
     let mut chunk = io::buffer();
     let mut held = [0u8; 1024];
@@ -303,12 +317,13 @@ pub fn plot(stdin: Stdin) {
     let mut j = job::new(true);
     j.lines = svg::head(j.lines, &mut out);
     let mut p = afresh(j);
-    let mut turns = u64::MAX;
-    while turns > 0 {
+    for _ in 0..u64::MAX {
         p = line(
             stdin, p, &mut chunk, &mut held, &mut out, &mut kept, &mut names,
         );
-        turns = job::turns_left(p.job, turns);
+        if p.job.lines.is_over {
+            break;
+        }
     }
     end(p, &mut out, &kept, &names);
 }

@@ -3,13 +3,8 @@ use Rattle.std.specs.Prelude.{◌≡◌, Bool, true, false, List, [], ◌∷◌,
 use Rattle.numbers.specs.Listed.{padded}
 use Rattle.binary.specs.Polynomial.{degree_of}
 use Rattle.plan.specs.Plan.{Axis, Plan, halton, sobol, Valid}
-use Rattle.plan.specs.Reading.{Step, refuse, got, Reading, refused, accepted}
+use Rattle.plan.specs.Reading.{Reading, refused, accepted}
 use Rattle.plan.specs.declared.PlanRead.{PlanRead}
-
--- a part's answer: code 0 with a value and the bits after it, or a refusal's number
-abbrev pub step_of : {A : Type 0} → ℕ → A → List ℕ → Step A
-step_of zero a l = got a l
-step_of (suc n) a l = refuse (suc n)
 
 unfoldable pub polynomials_of : List Axis → List ℕ
 polynomials_of [] = []

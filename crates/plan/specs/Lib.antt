@@ -3,3 +3,5 @@ pub mod Reading
 pub mod Order
 pub mod Refusals
 pub mod Answer
+pub mod RefusalNumbers
+pub mod Fields

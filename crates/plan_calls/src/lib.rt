@@ -8,7 +8,8 @@ ghost use Rattle.state.specs.State.{ms_in};
 ghost use Rattle.calls.specs.Calls.{read_spec, write_spec, write_buf, open_spec};
 
 use calls::Moved;
-use plan::refusal;
+use plan::{PlanFields, refusal};
+use points::PlanAxes;
 use state::Sampler;
 use writer::PlanWritten;
 
@@ -34,11 +35,9 @@ fn ms_of(directions: &[u64]) -> [u64; 72]
     ensures { result ≡ ms_in directions.now }
 {
     let mut ms = [0u64; 72];
-    let mut k = 0;
-    while k < 72 {
+    for k in 0..72 {
         let m = directions[32 * (k / 12) + k % 12] >> (31 - k % 12);
         ms[k] = m;
-        k += 1;
     }
     ms
 }
@@ -47,24 +46,21 @@ fn ms_of(directions: &[u64]) -> [u64; 72]
 pub fn write(s: Sampler, out: &mut [u8]) -> PlanWritten
     ensures { (result ≡ write_spec s out.old) × (out.new ≡ write_buf s out.old) }
 {
-    if !genuine::is_genuine(
-        s.family,
-        s.axes,
-        &s.bases,
-        &s.polynomials,
-        &s.directions,
-        &s.starts,
-        s.count,
-        s.taken,
-        &s.numerators,
-    ) {
+    if !genuine::is_genuine(&s) {
         return PlanWritten {
             code: refusal::INVALID_STATE,
             len: 0,
         };
     }
     let ms = ms_of(&s.directions);
-    writer::write_plan(out, s.family, s.axes, &s.bases, &s.polynomials, &ms)
+    let p = PlanFields {
+        family: s.family,
+        axes: s.axes,
+        bases: &s.bases,
+        polynomials: &s.polynomials,
+        ms: &ms,
+    };
+    writer::write_plan(out, p)
 }
 
 // The starts, one for each axis, with zeros after them.
@@ -81,17 +77,7 @@ fn six_starts(starts: &[u64]) -> [u64; 6]
 pub fn open(s: Sampler, starts: &[u64], count: u64) -> Moved
     ensures { result ≡ open_spec s (run_of starts.now count) }
 {
-    if !genuine::is_genuine(
-        s.family,
-        s.axes,
-        &s.bases,
-        &s.polynomials,
-        &s.directions,
-        &s.starts,
-        s.count,
-        s.taken,
-        &s.numerators,
-    ) {
+    if !genuine::is_genuine(&s) {
         return calls::refused(refusal::INVALID_STATE, s);
     }
     if !points::all_in_range(starts, count) {
@@ -101,7 +87,13 @@ pub fn open(s: Sampler, starts: &[u64], count: u64) -> Moved
         return calls::refused(refusal::SPLIT_START, s);
     }
     let six = six_starts(starts);
-    let next = state::next_point(s.family, s.axes, &s.bases, &s.directions, &six, count, 0);
+    let p = PlanAxes {
+        family: s.family,
+        axes: s.axes,
+        bases: &s.bases,
+        directions: &s.directions,
+    };
+    let next = state::next_point(p, &six, count, 0);
     let t = state::with_run(s, six, count, next);
     Moved { code: 0, state: t }
 }

@@ -1,6 +1,6 @@
 -- The searches and the checks, place by place; and nothing is wrong exactly where the plan is valid. Assumes nothing.
 use mathlib.Core.Path.{◌≡◌, refl, sym, ap, ◌∙◌}
-use mathlib.Core.Bool.{Bool}
+use mathlib.Core.Bool.{Bool, true, true≢false}
 use mathlib.Core.Logic.{◌↔◌, ⊎_elim}
 use mathlib.Core.List.{List, [], ◌∷◌}
 use Prim.Native.Nat.{ℕ, zero, suc, ◌+◌, ◌*◌, ◌/◌, ◌%◌, ◌^◌, ◌≤◌, ◌<◌}
@@ -11,6 +11,8 @@ use borrow.Author.Tests.{ne_eqb}
 use lib.ListN.{length, get_or, take, drop, length-take, length-drop, get_or-append}
 use lib.Seq.{take-suc, length-take-le, get_or-take, get_or-drop, get_or_at}
 use lib.Pow.{pow_mono}
+use Rattle.std.specs.Prelude.{Result, Ok, Err}
+use Rattle.std.specs.Result.{is_ok}
 use Rattle.numbers.specs.Gcd.{gcd}
 use Rattle.numbers.proofs.Cases.{lt_or_ge, eq_or_ne}
 use Rattle.numbers.proofs.GcdLaws.{gcd_one_iff_coprime}
@@ -24,7 +26,7 @@ use Rattle.plan.proofs.ValidLaws.{bases_snoc, axes_snoc}
 use Rattle.plan.proofs.AnswerLaws.{length_axes}
 use Rattle.fitting.specs.Fits.{FitPolynomial}
 use Rattle.fitting.proofs.AxisLaws.{degree_is, degree_low}
-use Rattle.plan_check.specs.Found.{fault_at, no_fault, FirstNot, CoprimeAt, BasesFound, NewAt, GivenAt, PolynomialFound, AxisFound, AxesFound, Found}
+use Rattle.plan_check.specs.Found.{fault_at, no_fault, FirstNot, CoprimeAt, BasesFound, NewAt, GivenAt, PolynomialFound, AxisFound, AxesFound, Found, Checked}
 use Rattle.plan_check.specs.declared.Fault.{Fault}
 
 -- ---- a search: the places before are right
@@ -79,6 +81,12 @@ pub no_digit_left : (m k : ℕ) → m / 2 ^ (k + 1) ≡ 0 → m < 2 ^ suc k
 no_digit_left m k e =
     let h : m < 2 ^ (k + 1) = omega (arith, (div-lt_iff_lt-mul {k = 2 ^ (k + 1)} {x = m} {y = 1} (one-le-pow (k + 1) 2 (omega arith))).0 (omega arith)) in
     rw (add-one k) at h
+
+-- ---- what is found, as a result
+
+pub checked_by : {F G : Fault → Type 0} (r : Result (Unit {0}) Fault) → ((f : Fault) → F f → G f) → Checked F r → Checked G r
+checked_by (Ok u) h p = h no_fault p
+checked_by (Err f) h p = (h f p.0, p.1)
 
 -- ---- bases
 
@@ -177,33 +185,21 @@ module _ (ps ms : List ℕ) (i : ℕ) where
   axis_wrong (AxisFound.even k p new h g z) wrong v b = g.here h (valid_given v k h)
   axis_wrong (AxisFound.large k p new h g z) wrong v b = g.here h (valid_given v k h)
 
-pub polynomial_sound : {p n : ℕ} → PolynomialFound p n → n ≡ 0 → FitPolynomial p
-polynomial_sound (PolynomialFound.sound f) e = f
-polynomial_sound (PolynomialFound.high h) e = absurd (omega arith)
-polynomial_sound (PolynomialFound.non_primitive h unfit) e = absurd (omega arith)
+-- axis i, with a polynomial that is right and has no twin before it, and the place of its first wrong m
+module _ (ps ms : List ℕ) (i d : ℕ) (e : d ≡ degree_of (get_or ps i 0)) (f : FitPolynomial (get_or ps i 0)) (new : FirstNot (NewAt ps i) i i) where
+  pub axis_sound : FirstNot (GivenAt ms i) d d → AxisFound ps ms i no_fault
+  axis_sound g = AxisFound.sound f new (rw e at g)
 
--- axis i, with the places of its twin and of its first wrong m
-module _ (ps ms : List ℕ) (i d j k : ℕ) (e : d ≡ degree_of (get_or ps i 0)) (f : FitPolynomial (get_or ps i 0)) (new : FirstNot (NewAt ps i) i j)
-    (alone : i ≤ j) (g : FirstNot (GivenAt ms i) d k) where
-  first_new : FirstNot (NewAt ps i) i i
-  first_new = let q : j ≡ i = omega (arith, new.within) in rw q at new
-
-  pub axis_sound : k ≡ d → AxisFound ps ms i no_fault
-  axis_sound q = AxisFound.sound f first_new (rw (q, e) at g)
-
-  module _ (n : k ≡ d → ⊥) where
-    short : k < degree_of (get_or ps i 0)
-    short = let h : (k ≡ d) → ⊥ = n in omega (arith, g.within)
-
+  module _ (k : ℕ) (h : k < d) (g : FirstNot (GivenAt ms i) d k) where
     pub axis_even : get_or ms (12 * i + k) 0 % 2 ≡ 0 → AxisFound ps ms i (fault_at 8 (i + 1) (k + 1) (get_or ms (12 * i + k) 0) 0)
-    axis_even z = AxisFound.even k f first_new short (rw e at g) z
+    axis_even z = AxisFound.even k f new (rw e at h) (rw e at g) z
 
     pub axis_large : get_or ms (12 * i + k) 0 % 2 ≡ 1 → AxisFound ps ms i (fault_at 101 (i + 1) (k + 1) (get_or ms (12 * i + k) 0) 0)
     axis_large o =
         let m = get_or ms (12 * i + k) 0 in
         let high : 2 ^ (k + 1) ≤ m =
-        ⊎_elim (λ l. absurd (g.here (omega (arith, short)) (given_odd ms i k o (rw (← add-one k) l)))) (λ l. l) (lt_or_ge m (2 ^ (k + 1))) in
-        AxisFound.large k f first_new short (rw e at g) high
+        ⊎_elim (λ l. absurd (g.here h (given_odd ms i k o (rw (← add-one k) l)))) (λ l. l) (lt_or_ge m (2 ^ (k + 1))) in
+        AxisFound.large k f new (rw e at h) (rw e at g) high
 
 axes_valid : (ps ms : List ℕ) (n : ℕ) {f : Fault} → AxesFound ps ms n f → (f.code ≡ 0) ↔ ValidAxes (axes_of ps ms n)
 unfolding NewAt
@@ -252,3 +248,9 @@ module _ (family s : ℕ) (bases ps ms : List ℕ) (long : length bases ≡ 6) w
       let front = length_axes ps ms s in
       rw (plan_sobol family s bases ps ms h)
       (λ e. (few.1, ((omega arith, omega arith), iff.0 e)), λ v. iff.1 v.1.1)
+
+  -- and a check is Ok exactly there
+  pub checked_valid : (r : Result (Unit {0}) Fault) → Checked (Found family s bases ps ms) r
+      → (is_ok r ≡ true) ↔ ((s ≤ 6) × Valid (plan_of family s bases ps ms))
+  checked_valid (Ok u) c = let iff = found_valid c in (λ e. iff.0 refl, λ v. refl)
+  checked_valid (Err f) c = let iff = found_valid c.0 in (λ e. absurd (true≢false (sym e)), λ v. absurd (c.1 (iff.1 v)))

@@ -1,11 +1,12 @@
 -- What is wrong with a plan that arrays hold: the first field at fault, in the order of a reading (01-scope.md, "When a call is turned
 -- down"), all before it being right. Definitions only.
-use Rattle.std.specs.Prelude.{◌≡◌, List, ℕ, ◌+◌, ◌*◌, ◌%◌, ◌^◌, ◌≤◌, ◌<◌, take, get_or}
+use Rattle.std.specs.Prelude.{◌≡◌, List, Option, Some, None, Result, Ok, Err, ℕ, ◌+◌, ◌*◌, ◌%◌, ◌^◌, ◌≤◌, ◌<◌, take, get_or}
 use Rattle.numbers.specs.Gcd.{Coprime}
 use Rattle.binary.specs.Polynomial.{degree_of}
 use Rattle.sobol.specs.Directions.{OddBelow}
 use Rattle.plan.specs.Plan.{ValidBases, ValidAxes, OneToSix, HaltonFamily}
 use Rattle.plan.specs.Answer.{axes_of}
+use Rattle.plan.specs.declared.fields.PlanFields.{PlanFields}
 use Rattle.fitting.specs.Fits.{FitPolynomial}
 use Rattle.plan_check.specs.declared.Fault.{Fault}
 
@@ -21,6 +22,16 @@ pub record FirstNot (Right : ℕ → Type 0) (n r : ℕ) : Type 0 where
   pub within : r ≤ n
   pub before : (j : ℕ) → j < r → Right j
   pub here : r < n → Right r → ⊥
+
+-- the same where the first is an option
+abbrev pub FirstWrong : (ℕ → Type 0) → ℕ → Option ℕ → Type 0
+FirstWrong Right n None = FirstNot Right n n
+FirstWrong Right n (Some r) = (r < n) × FirstNot Right n r
+
+-- what is found, as a result: no fault, or one with a number
+abbrev pub Checked : (Fault → Type 0) → Result (Unit {0}) Fault → Type 0
+Checked F (Ok u) = F no_fault
+Checked F (Err f) = F f × (f.code ≡ 0 → ⊥)
 
 -- ---- Halton plans
 
@@ -79,3 +90,7 @@ pub data Found (family s : ℕ) (bases ps ms : List ℕ) : Fault → Type 0 wher
   bad_count : family ≤ 3 → (OneToSix s → ⊥) → Found family s bases ps ms (fault_at 3 0 0 s 0)
   halton : {f : Fault} → HaltonFamily family → OneToSix s → BasesFound bases s f → Found family s bases ps ms f
   sobol : {f : Fault} → family ≡ 2 → OneToSix s → AxesFound ps ms s f → Found family s bases ps ms f
+
+-- of the plan that lent fields hold
+abbrev pub FieldsFound : PlanFields → Fault → Type 0
+FieldsFound p = Found p.family p.axes p.bases.now p.polynomials.now p.ms.now

@@ -1,16 +1,17 @@
 // What is wrong with a plan that arrays hold: nothing, or the first field at fault, by its axis and place.
 #![tactic(auto)]
 
-ghost use Rattle.std.specs.Prelude.{◌≡◌, ◌+◌, ◌*◌, ◌<◌, ◌≤◌, length};
-ghost use Rattle.plan_check.specs.Found.{fault_at, FirstNot, CoprimeAt, BasesFound, NewAt, GivenAt, PolynomialFound, AxisFound, AxesFound, Found};
+ghost use Rattle.std.specs.Prelude.{◌≡◌, ◌≢◌, ◌<◌, ◌≤◌, length, MatchResult};
+ghost use Rattle.fitting.specs.Fits.{FitPolynomial};
+ghost use Rattle.plan_check.specs.Found.{fault_at, FirstWrong, CoprimeAt, BasesFound, NewAt, GivenAt, PolynomialFound, AxisFound, AxesFound, FieldsFound, Checked};
 
-use plan::refusal;
+use plan::{PlanFields, refusal};
 
 // A given m_i that is not below 2^i. No bytes spell one, so this is the number of no refusal; nor are those from 102 on, of words that spell nothing.
 pub const LARGE_NUMBER: u64 = 101;
 
-// The number of a refusal, or 0; the axis and the place at fault, from 1; the value that is wrong, and the one that it meets. What a
-// refusal does not have is 0.
+// The number of a refusal, or 0 where a struct that has a fault tells of none; the axis and the place at fault, from 1; the value that is wrong,
+// and the one that it meets. What a refusal does not have is 0.
 #[derive(Clone, Copy)]
 pub struct Fault {
     pub code: u64,
@@ -35,161 +36,146 @@ pub fn report(code: u64, axis: usize, place: usize, got: u64, other: u64) -> Fau
 
 // ---- Halton plans
 
-// The first of `n` bases that shares a factor with `b`, by its place; `n` where none does.
-fn first_shared(b: u64, bases: &[u64], n: usize) -> usize
+// The first of `n` bases that shares a factor with `b`, by its place.
+fn first_shared(b: u64, bases: &[u64], n: usize) -> Option<usize>
     requires { n ≤ length bases.now }
-    ensures { FirstNot (CoprimeAt b bases.now) n result }
+    ensures { FirstWrong (CoprimeAt b bases.now) n result }
 {
-    let mut j = 0;
-    while j < n {
+    for j in 0..n {
         if numbers::gcd(b, bases[j]) != 1 {
-            return j;
+            return Some(j);
         }
-        j += 1;
     }
-    n
+    None
 }
 
 // What is wrong with the first `n` bases.
-fn check_bases(bases: &[u64], n: usize) -> Fault
+fn check_bases(bases: &[u64], n: usize) -> Result<(), Fault>
     requires { n ≤ length bases.now }
-    ensures { BasesFound bases.now n result }
+    ensures { Checked (BasesFound bases.now n) result }
 {
-    let mut i = 0;
-    while i < n {
+    for i in 0..n {
         let b = bases[i];
         if b < 2 {
-            return report(refusal::BAD_BASE, i + 1, 0, b, 0);
+            return Err(report(refusal::BAD_BASE, i + 1, 0, b, 0));
         }
         if 256 < b {
-            return report(refusal::BAD_BASE, i + 1, 0, b, 0);
+            return Err(report(refusal::BAD_BASE, i + 1, 0, b, 0));
         }
-        let j = first_shared(b, bases, i);
-        if j < i {
-            return report(refusal::COMMON_FACTOR, i + 1, j + 1, b, bases[j]);
+        if let Some(j) = first_shared(b, bases, i) {
+            return Err(report(refusal::COMMON_FACTOR, i + 1, j + 1, b, bases[j]));
         }
-        i += 1;
     }
-    report(0, 0, 0, 0, 0)
+    Ok(())
 }
 
 // ---- Sobol plans
 
-// The number of the refusal of a polynomial, or 0.
-fn check_polynomial(p: u64) -> u64
-    ensures { PolynomialFound p result }
+// Whether a polynomial is right, or the number of its refusal.
+fn check_polynomial(p: u64) -> Result<(), u64>
+    ensures { MatchResult result (λ _. FitPolynomial p) (λ n. PolynomialFound p n × (n ≢ 0)) }
 {
     if 8191 < p {
-        return refusal::BAD_DEGREE;
+        return Err(refusal::BAD_DEGREE);
     }
     if p % 2 != 1 {
-        return refusal::NOT_PRIMITIVE;
+        return Err(refusal::NOT_PRIMITIVE);
     }
     let d = sobol::degree(p);
     if d == 0 {
-        return 0;
+        return Ok(());
     }
     if primitive::is_primitive(d as u64, p) {
-        return 0;
+        return Ok(());
     }
-    refusal::NOT_PRIMITIVE
+    Err(refusal::NOT_PRIMITIVE)
 }
 
-// The first place of the polynomial that stands at place `n`.
-fn first_twin(polynomials: &[u64], n: usize) -> usize
+// The first place before `n` of the polynomial that stands at place `n`.
+fn first_twin(polynomials: &[u64], n: usize) -> Option<usize>
     requires { n < length polynomials.now }
-    ensures { FirstNot (NewAt polynomials.now n) n result }
+    ensures { FirstWrong (NewAt polynomials.now n) n result }
 {
     let p = polynomials[n];
-    let mut j = 0;
-    while j < n {
+    for j in 0..n {
         if p == polynomials[j] {
-            return j;
+            return Some(j);
         }
-        j += 1;
     }
-    n
+    None
 }
 
-// The first of `d` given m's of axis `i` that is even or too large, by its place; `d` where none is.
-fn first_wrong(ms: &[u64], i: usize, d: usize) -> usize
-    requires { (i < 6) × (d ≤ 12) × (length ms.now ≡ 72) }
-    ensures { FirstNot (GivenAt ms.now i) d result }
+// The first of `d` given m's of axis `i` that is even or too large, by its place.
+fn first_wrong(ms: &[u64; 72], i: usize, d: usize) -> Option<usize>
+    requires { (i < 6) × (d ≤ 12) }
+    ensures { FirstWrong (GivenAt ms.now i) d result }
 {
-    let mut k = 0;
-    while k < d {
+    for k in 0..d {
         let m = ms[12 * i + k];
         if m % 2 != 1 {
-            return k;
+            return Some(k);
         }
         if m >> (k + 1) != 0 {
-            return k;
+            return Some(k);
         }
-        k += 1;
     }
-    d
+    None
 }
 
 // What is wrong with axis `i`.
-fn check_axis(polynomials: &[u64], ms: &[u64], i: usize) -> Fault
-    requires { (i < 6) × (length polynomials.now ≡ 6) × (length ms.now ≡ 72) }
-    ensures { AxisFound polynomials.now ms.now i result }
+fn check_axis(polynomials: &[u64; 6], ms: &[u64; 72], i: usize) -> Result<(), Fault>
+    requires { i < 6 }
+    ensures { Checked (AxisFound polynomials.now ms.now i) result }
 {
     let p = polynomials[i];
-    let code = check_polynomial(p);
-    if code != 0 {
-        return report(code, i + 1, 0, p, 0);
+    if let Err(code) = check_polynomial(p) {
+        return Err(report(code, i + 1, 0, p, 0));
     }
-    let j = first_twin(polynomials, i);
-    if j < i {
-        return report(refusal::REPEATED_POLYNOMIAL, i + 1, j + 1, p, 0);
+    if let Some(j) = first_twin(polynomials, i) {
+        return Err(report(refusal::REPEATED_POLYNOMIAL, i + 1, j + 1, p, 0));
     }
     let d = sobol::degree(p);
-    let k = first_wrong(ms, i, d);
-    if k == d {
-        return report(0, 0, 0, 0, 0);
+    if let Some(k) = first_wrong(ms, i, d) {
+        let m = ms[12 * i + k];
+        if m % 2 == 0 {
+            return Err(report(refusal::EVEN_NUMBER, i + 1, k + 1, m, 0));
+        }
+        return Err(report(LARGE_NUMBER, i + 1, k + 1, m, 0));
     }
-    let m = ms[12 * i + k];
-    if m % 2 == 0 {
-        return report(refusal::EVEN_NUMBER, i + 1, k + 1, m, 0);
-    }
-    report(LARGE_NUMBER, i + 1, k + 1, m, 0)
+    Ok(())
 }
 
 // What is wrong with the first `n` axes.
-fn check_axes(polynomials: &[u64], ms: &[u64], n: usize) -> Fault
-    requires { (n ≤ 6) × (length polynomials.now ≡ 6) × (length ms.now ≡ 72) }
-    ensures { AxesFound polynomials.now ms.now n result }
+fn check_axes(polynomials: &[u64; 6], ms: &[u64; 72], n: usize) -> Result<(), Fault>
+    requires { n ≤ 6 }
+    ensures { Checked (AxesFound polynomials.now ms.now n) result }
 {
-    let mut i = 0;
-    while i < n {
-        let f = check_axis(polynomials, ms, i);
-        if f.code != 0 {
-            return f;
-        }
-        i += 1;
+    for i in 0..n {
+        check_axis(polynomials, ms, i)?;
     }
-    report(0, 0, 0, 0, 0)
+    Ok(())
 }
 
 // ---- the whole
 
-// What is wrong with the plan that the arrays hold.
-pub fn check(family: u64, axes: usize, bases: &[u64], polynomials: &[u64], ms: &[u64]) -> Fault
-    requires { (length bases.now ≡ 6) × (length polynomials.now ≡ 6) × (length ms.now ≡ 72) }
-    ensures { Found family axes bases.now polynomials.now ms.now result }
+// What is wrong with the plan that the fields hold.
+pub fn check(p: PlanFields) -> Result<(), Fault>
+    ensures { Checked (FieldsFound p.entry) result }
 {
+    let family = p.family;
+    let axes = p.axes;
     if 3 < family {
-        return report(refusal::BAD_FAMILY, 0, 0, family, 0);
+        return Err(report(refusal::BAD_FAMILY, 0, 0, family, 0));
     }
     if axes < 1 {
-        return report(refusal::BAD_AXIS_COUNT, 0, 0, axes as u64, 0);
+        return Err(report(refusal::BAD_AXIS_COUNT, 0, 0, axes as u64, 0));
     }
     if 6 < axes {
-        return report(refusal::BAD_AXIS_COUNT, 0, 0, axes as u64, 0);
+        return Err(report(refusal::BAD_AXIS_COUNT, 0, 0, axes as u64, 0));
     }
     if family == 2 {
-        return check_axes(polynomials, ms, axes);
+        return check_axes(p.polynomials, p.ms, axes);
     }
+    let bases = p.bases;
     check_bases(bases, axes)
 }

@@ -15,7 +15,7 @@ use Rattle.text.specs.Decimal.{decimal}
 use Rattle.text.specs.Put.{TextPut}
 use Rattle.text.proofs.DecimalLaws.{length_digits}
 use Rattle.text.proofs.PutLaws.{put_none, put_then}
-use Rattle.plan.specs.Plan.{Axis, Valid}
+use Rattle.plan.specs.Plan.{Axis, Plan, Valid}
 use Rattle.plan.specs.Answer.{axis_at, axes_of, plan_of}
 use Rattle.plan.proofs.AnswerLaws.{length_axes}
 use Rattle.plan_check.proofs.FoundLaws.{axes_at, fit_polynomial, valid_given, given_low, plan_halton, plan_sobol}
@@ -129,12 +129,11 @@ module _ (family s : ℕ) (bases ps ms : List ℕ) (long : length bases ≡ 6) (
   unfolding plan_text
   sobol_text e = rw (plan_sobol family s bases ps ms e, e) refl
 
-pub nothing_put : {family s : ℕ} {bases ps ms old : List ℕ} → ((s ≤ 6) × Valid (plan_of family s bases ps ms) → ⊥) → WordsPut family s bases ps ms old old 0
+pub nothing_put : {s : ℕ} {p : Plan} {old : List ℕ} → ((s ≤ 6) × Valid p → ⊥) → WordsPut s p old old 0
 nothing_put h = record { some = λ six v. absurd (h (six, v)); none = λ n. (refl, refl) }
 
-pub words_put : {family s : ℕ} {bases ps ms old new : List ℕ} {r : ℕ} → (s ≤ 6) × Valid (plan_of family s bases ps ms)
-    → TextPut old new 0 (plan_text (plan_of family s bases ps ms)) r → WordsPut family s bases ps ms old new r
-words_put v p = record { some = λ six w. p; none = λ n. absurd (n v) }
+pub words_put : {s : ℕ} {p : Plan} {old new : List ℕ} {r : ℕ} → (s ≤ 6) × Valid p → TextPut old new 0 (plan_text p) r → WordsPut s p old new r
+words_put v t = record { some = λ six w. t; none = λ n. absurd (n v) }
 
 pub long_enough : (new : List ℕ) (r : ℕ) → r ≤ length new → (r ≤ length new) × (r ≡ length (take r new))
 long_enough new r h = (h, sym (length-take-le r new h))

@@ -4,7 +4,6 @@ use Rattle.binary.specs.Polynomial.{degree_of}
 use Rattle.text.specs.Decimal.{decimal}
 use Rattle.text.specs.Put.{TextPut}
 use Rattle.plan.specs.Plan.{Axis, Plan, halton, sobol, Valid}
-use Rattle.plan.specs.Answer.{plan_of}
 use Rattle.axis_words.specs.Spelled.{comma, colon}
 use Rattle.plan_words.specs.Says.{family_word}
 
@@ -50,7 +49,7 @@ pub record GoodAxis (ps ms : List ℕ) (i : ℕ) : Type 0 where
   pub high : get_or ps i 0 < 2 ^ 13
   pub each : (k : ℕ) → k < degree_of (get_or ps i 0) → get_or ms (12 * i + k) 0 < 10000
 
--- the words of the plan that arrays hold were put to the front; or they hold no valid plan, and nothing was
-pub record WordsPut (family s : ℕ) (bases ps ms old new : List ℕ) (r : ℕ) : Type 0 where
-  pub some : s ≤ 6 → Valid (plan_of family s bases ps ms) → TextPut old new 0 (plan_text (plan_of family s bases ps ms)) r
-  pub none : ((s ≤ 6) × Valid (plan_of family s bases ps ms) → ⊥) → (r ≡ 0) × (new ≡ old)
+-- the words of the plan that arrays of s axes hold were put to the front; or they hold no valid plan, and nothing was
+pub record WordsPut (s : ℕ) (p : Plan) (old new : List ℕ) (r : ℕ) : Type 0 where
+  pub some : s ≤ 6 → Valid p → TextPut old new 0 (plan_text p) r
+  pub none : ((s ≤ 6) × Valid p → ⊥) → (r ≡ 0) × (new ≡ old)

@@ -3,10 +3,13 @@
 
 ghost use Rattle.std.specs.Prelude.{◌≡◌, ℕ, ◌+◌, ◌*◌, ◌<◌, ◌≤◌, length, get_or, take, drop};
 ghost use Rattle.plan.specs.Plan.{Valid};
-ghost use Rattle.plan.specs.Answer.{axis_at, axes_of, plan_of};
+ghost use Rattle.plan.specs.Answer.{axis_at, axes_of};
+ghost use Rattle.plan.specs.Fields.{fields_plan};
 ghost use Rattle.plan_words.specs.Says.{family_word};
 ghost use Rattle.text.specs.Put.{TextPut};
 ghost use Rattle.plan_text.specs.Words.{part, bases_text, mark_at, ms_text, axis_text, axes_text, plan_text, GoodAxis, WordsPut};
+
+use plan::PlanFields;
 
 // A mark, and a number in decimal.
 fn put_part(out: &mut [u8], at: usize, mark: u8, n: u64) -> usize
@@ -25,10 +28,8 @@ fn put_bases(out: &mut [u8], start: usize, bases: &[u64], axes: usize) -> usize
     ensures { TextPut out.old out.new start (bases_text (take axes bases.now)) result × (result ≤ start + 30) }
 {
     let mut at = start;
-    let mut i = 0;
-    while i < axes {
-        at = put_part(out, at, b' ', bases[i]);
-        i += 1;
+    for base in &bases[..axes] {
+        at = put_part(out, at, b' ', *base);
     }
     at
 }
@@ -43,23 +44,21 @@ fn mark_at(k: usize) -> u8
 }
 
 // The first `d` m's of axis `i`.
-fn put_ms(out: &mut [u8], start: usize, ms: &[u64], i: usize, d: usize) -> usize
-    requires { (i < 6) × (d ≤ 12) × (length ms.now ≡ 72) × (start + 74 ≤ length out.old) × ((k : ℕ) → k < d → get_or ms.now (12 * i + k) 0 < 10000) }
+fn put_ms(out: &mut [u8], start: usize, ms: &[u64; 72], i: usize, d: usize) -> usize
+    requires { (i < 6) × (d ≤ 12) × (start + 74 ≤ length out.old) × ((k : ℕ) → k < d → get_or ms.now (12 * i + k) 0 < 10000) }
     ensures { TextPut out.old out.new start (ms_text 0 (take d (drop (12 * i) ms.now))) result × (result ≤ start + 60) }
 {
     let mut at = start;
-    let mut k = 0;
-    while k < d {
+    for k in 0..d {
         let mark = mark_at(k);
         at = put_part(out, at, mark, ms[12 * i + k]);
-        k += 1;
     }
     at
 }
 
 // Axis `i`.
-fn put_axis(out: &mut [u8], at: usize, polynomials: &[u64], ms: &[u64], i: usize) -> usize
-    requires { (i < 6) × (length polynomials.now ≡ 6) × (length ms.now ≡ 72) × (at + 79 ≤ length out.old) × GoodAxis polynomials.now ms.now i }
+fn put_axis(out: &mut [u8], at: usize, polynomials: &[u64; 6], ms: &[u64; 72], i: usize) -> usize
+    requires { (i < 6) × (at + 79 ≤ length out.old) × GoodAxis polynomials.now ms.now i }
     ensures { TextPut out.old out.new at (axis_text (axis_at polynomials.now ms.now i)) result × (result ≤ at + 65) }
 {
     let p = polynomials[i];
@@ -72,15 +71,19 @@ fn put_axis(out: &mut [u8], at: usize, polynomials: &[u64], ms: &[u64], i: usize
 }
 
 // `axes` axes.
-fn put_axes(out: &mut [u8], start: usize, polynomials: &[u64], ms: &[u64], axes: usize) -> usize
-    requires { (axes ≤ 6) × (length polynomials.now ≡ 6) × (length ms.now ≡ 72) × (start + 404 ≤ length out.old) × ((k : ℕ) → k < axes → GoodAxis polynomials.now ms.now k) }
+fn put_axes(
+    out: &mut [u8],
+    start: usize,
+    polynomials: &[u64; 6],
+    ms: &[u64; 72],
+    axes: usize,
+) -> usize
+    requires { (axes ≤ 6) × (start + 404 ≤ length out.old) × ((k : ℕ) → k < axes → GoodAxis polynomials.now ms.now k) }
     ensures { TextPut out.old out.new start (axes_text (axes_of polynomials.now ms.now axes)) result × (result ≤ start + 390) }
 {
     let mut at = start;
-    let mut i = 0;
-    while i < axes {
+    for i in 0..axes {
         at = put_axis(out, at, polynomials, ms, i);
-        i += 1;
     }
     at
 }
@@ -101,42 +104,27 @@ fn put_family(out: &mut [u8], family: u64) -> usize
 }
 
 // The words of a valid plan, at the front.
-fn put_plan(
-    out: &mut [u8],
-    family: u64,
-    axes: usize,
-    bases: &[u64],
-    polynomials: &[u64],
-    ms: &[u64],
-) -> usize
-    requires { (length bases.now ≡ 6) × (length polynomials.now ≡ 6) × (length ms.now ≡ 72) × (412 ≤ length out.old) × (axes ≤ 6)
-        × Valid (plan_of family axes bases.now polynomials.now ms.now) }
-    ensures { TextPut out.old out.new 0 (plan_text (plan_of family axes bases.now polynomials.now ms.now)) result × (result ≤ 398) }
+fn put_plan(out: &mut [u8], p: PlanFields) -> usize
+    requires { (412 ≤ length out.old) × (p.axes ≤ 6) × Valid (fields_plan p) }
+    ensures { TextPut out.old out.new 0 (plan_text (fields_plan p.entry)) result × (result ≤ 398) }
 {
-    let at = put_family(out, family);
-    if family == 2 {
-        return put_axes(out, at, polynomials, ms, axes);
+    let at = put_family(out, p.family);
+    if p.family == 2 {
+        return put_axes(out, at, p.polynomials, p.ms, p.axes);
     }
-    put_bases(out, at, bases, axes)
+    let bases = p.bases;
+    put_bases(out, at, bases, p.axes)
 }
 
-// Puts the words of the plan that the arrays hold to the front of `out`, and gives their length; 0 where they hold no valid plan. The
+// Puts the words of the plan that the fields hold to the front of `out`, and gives their length; 0 where they hold no valid plan. The
 // second clause follows from the first: with it a caller's `&out[..r]` needs no proof.
-pub fn put_words(
-    out: &mut [u8],
-    family: u64,
-    axes: usize,
-    bases: &[u64],
-    polynomials: &[u64],
-    ms: &[u64],
-) -> usize
-    requires { (length bases.now ≡ 6) × (length polynomials.now ≡ 6) × (length ms.now ≡ 72) × (412 ≤ length out.old) }
-    ensures words_put { WordsPut family axes bases.now polynomials.now ms.now out.old out.new result }
+pub fn put_words(out: &mut [u8], p: PlanFields) -> usize
+    requires { 412 ≤ length out.old }
+    ensures words_put { WordsPut p.entry.axes (fields_plan p.entry) out.old out.new result }
     ensures upper_bound { (result ≤ length out.new) × (result ≡ length (take result out.new)) }
 {
-    let f = plan_check::check(family, axes, bases, polynomials, ms);
-    if f.code != 0 {
-        return 0;
+    match plan_check::check(p) {
+        Ok(()) => put_plan(out, p),
+        Err(_) => 0,
     }
-    put_plan(out, family, axes, bases, polynomials, ms)
 }

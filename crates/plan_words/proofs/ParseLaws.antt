@@ -13,19 +13,17 @@ use Rattle.binary.specs.Polynomial.{degree_of}
 use Rattle.words.specs.Word.{FirstWord}
 use Rattle.words.specs.Decimal.{number_of}
 use Rattle.words.specs.declared.Word.{Word}
-use Rattle.words.specs.declared.Number.TheVariants.{Value}
+use Rattle.std.proofs.Common.{◌≢◌, Ok, Err, None}
 use Rattle.plan.specs.Plan.{Axis, no_axis, Plan, halton, sobol, OneToSix, HaltonFamily}
 use Rattle.plan.specs.Answer.{axis_at, axes_of}
 use Rattle.plan.proofs.AnswerLaws.{length_axes}
 use Rattle.axis_words.specs.Spelled.{AxisWord}
 use Rattle.axis_words.specs.Parsed.{Kept}
 use Rattle.axis_words.proofs.PartLaws.{value_same, axis_same}
-use Rattle.plan_check.specs.declared.Fault.{Fault}
-use Rattle.plan_check.specs.Found.{fault_at, no_fault}
+use Rattle.plan_check.specs.Found.{fault_at}
 use Rattle.plan_check.proofs.FoundLaws.{axes_at, plan_halton, plan_sobol}
 use Rattle.plan_words.specs.Says.{word_from, word_text, word_at, family_words, family_word, families, axes_from, axes_said, Head, Says}
-use Rattle.plan_words.specs.Parsed.{FamilyRead, NoBase, NoAxis, BasesRead, AxesRead, Unspelled, Unsaid, Parsed}
-use Rattle.plan_words.specs.declared.PlanSaid.{PlanSaid}
+use Rattle.plan_words.specs.Parsed.{FamilyRead, NoBase, NoAxis, BasesRead, AxesHeld, AxesRead, Unspelled, PlanHeld}
 
 -- ---- words
 
@@ -58,28 +56,27 @@ module _ {line : List ℕ} {from at i : ℕ} (p : Place line from at i) {w : Wor
 
 pub record BasesSoFar (line : List ℕ) (from : ℕ) (bases : List ℕ) (i : ℕ) : Type 0 where
   pub size : length bases ≡ 6
-  pub each : (j : ℕ) → j < i → number_of (word_at line from j) ≡ Value (get_or bases j 0)
+  pub each : (j : ℕ) → j < i → number_of (word_at line from j) ≡ Ok (get_or bases j 0)
 
 pub no_bases : (line : List ℕ) (from : ℕ) → BasesSoFar line from (replicate 6 0) 0
 no_bases line from = record { size = refl; each = λ j h. absurd (omega arith) }
 
 module _ {line : List ℕ} {from : ℕ} {bases : List ℕ} {i : ℕ} (s : BasesSoFar line from bases i) where
-  pub base_next : (v : ℕ) → i < 6 → number_of (word_at line from i) ≡ Value v → BasesSoFar line from (set bases i v) (i + 1)
+  pub base_next : (v : ℕ) → i < 6 → number_of (word_at line from i) ≡ Ok v → BasesSoFar line from (set bases i v) (i + 1)
   base_next v h e =
       record {
         size = length-set bases i v ∙ s.size;
-        each = below_more (λ (j : ℕ). number_of (word_at line from j) ≡ Value (get_or (set bases i v) j 0)) i
-            (λ j l. s.each j l ∙ ap Value (sym (get_or-set_other bases i j v 0 (λ q. omega (arith, q)))))
-            (e ∙ ap Value (sym (get_or-set_same bases i v 0 (omega (arith, s.size)))));
+        each = below_more (λ (j : ℕ). number_of (word_at line from j) ≡ Ok (get_or (set bases i v) j 0)) i
+            (λ j l. s.each j l ∙ ap Ok (sym (get_or-set_other bases i j v 0 (λ q. omega (arith, q)))))
+            (e ∙ ap Ok (sym (get_or-set_same bases i v 0 (omega (arith, s.size)))));
       }
 
-  pub base_wrong : (n : ℕ) → i < n → ((b : ℕ) → number_of (word_at line from i) ≡ Value b → ⊥) → BasesRead line from n (fault_at 102 (i + 1) 0 0 0) bases
+  pub base_wrong : (n : ℕ) → i < n → ((b : ℕ) → number_of (word_at line from i) ≡ Ok b → ⊥) → BasesRead line from n (Err (fault_at 102 (i + 1) 0 0 0))
   unfolding NoBase
-  base_wrong n h no_number =
-      record { size = s.size; spelled = λ z. absurd (omega arith); refused = λ z. (refl, (i, refl, h, no_number)) }
+  base_wrong n h no_number = (refl, (i, refl, h, no_number))
 
-  pub bases_all : (n : ℕ) → n ≤ i → BasesRead line from n no_fault bases
-  bases_all n h = record { size = s.size; spelled = λ z j l. s.each j (omega arith); refused = λ z. absurd (z refl) }
+  pub bases_all : (n : ℕ) → n ≤ i → BasesRead line from n (Ok bases)
+  bases_all n h = (s.size, λ j l. s.each j (omega arith))
 
 -- ---- axes
 
@@ -126,101 +123,76 @@ module _ {line : List ℕ} {from : ℕ} {ps ms : List ℕ} {i : ℕ} (s : AxesSo
       }
 
   pub axis_wrong : (n code place got : ℕ) → i < n → (code ≡ 0 → ⊥) → ((x : Axis) → AxisWord (word_at line from i) x → ⊥)
-      → AxesRead line from n (fault_at code (i + 1) place got 0) ps new
+      → AxesRead line from n (Err (fault_at code (i + 1) place got 0))
   unfolding NoAxis
-  axis_wrong n code place got h wrong none =
-      record { size = s.size; size_ms = k.size ∙ s.size_ms; spelled = λ z. absurd (wrong z); refused = λ z. (i, refl, h, none) }
+  axis_wrong n code place got h wrong none = (wrong, (i, refl, h, none))
 
-pub axes_all : {line : List ℕ} {from : ℕ} {ps ms : List ℕ} {i : ℕ} → AxesSoFar line from ps ms i → (n : ℕ) → n ≤ i → AxesRead line from n no_fault ps ms
-axes_all s n h =
-    record { size = s.size; size_ms = s.size_ms; spelled = λ z j l. s.each j (omega arith); refused = λ z. absurd (z refl) }
+pub axes_all : {line : List ℕ} {from : ℕ} {ps ms : List ℕ} {i : ℕ} → AxesSoFar line from ps ms i → (n : ℕ) → n ≤ i → AxesHeld line from n ps ms
+axes_all s n h = record { size = s.size; size_ms = s.size_ms; spelled = λ j l. s.each j (omega arith) }
 
 -- ---- the whole
 
-module _ (line : List ℕ) (from : ℕ) where
-  pub unsaid_family : {f : ℕ} {r : PlanSaid} → FamilyRead (word_text line from) f → families ≤ f → Unsaid 2 r → Parsed line from r
-  unsaid_family n h u =
+module _ (line : List ℕ) (from family s end : ℕ) (e : end ≡ axes_from line from) (n : word_text line from ≡ family_word family) (c : s ≡ axes_said line from) (few : OneToSix s) where
+  head : (k : ℕ) → k ≡ s → Head line from family k
+  head k q = record { named = n; count = sym c ∙ sym q; few = rw q few }
+
+  pub said_axes : (ps ms : List ℕ) → family ≡ 2 → AxesHeld line end s ps ms
+      → PlanHeld line from (record { family = family; axes = s; bases = replicate 6 0; polynomials = ps; ms = ms })
+  unfolding Says
+  said_axes ps ms two a =
       record {
-        few = omega (arith, u.none);
-        size = ap length u.bases;
-        size_polynomials = ap length u.polynomials;
-        size_ms = ap length u.ms;
-        blank = λ l. u.polynomials;
-        spelled = λ z. absurd (omega (arith, u.number));
-        refused = λ z. rw (u.number, u.axis) (Unspelled.bad_family (n.none h));
+        few = few.1;
+        size = refl;
+        size_polynomials = a.size;
+        size_ms = a.size_ms;
+        blank = λ n. absurd (n two);
+        spelled =
+            rw (plan_sobol family s (replicate 6 0) ps ms two) (
+              rw two at (head (length (axes_of ps ms s)) (length_axes ps ms s)),
+              λ i h.
+                  let l : i < s = omega (arith, length_axes ps ms s) in
+                  rw (axes_at ps ms s i l, ← e) (a.spelled i l),
+            );
       }
 
-  pub unsaid_count : {r : PlanSaid} → (OneToSix (axes_said line from) → ⊥) → Unsaid 3 r → Parsed line from r
-  unsaid_count h u =
+  pub wrong_axis : {code axis : ℕ} → family ≡ 2 → (code ≢ 0) × ((i : ℕ) × (axis ≡ i + 1) × (i < s) × NoAxis line end i)
+      → Unspelled line from code axis × (code ≢ 0)
+  wrong_axis {code} two a =
+      let w = a.1 in
+      (rw w.1 (Unspelled.bad_axis code w.0 (rw two at n) (omega (arith, w.2)) (rw e at w.3)), a.0)
+
+  pub said_bases : (bases : List ℕ) → HaltonFamily family → BasesRead line end s (Ok bases)
+      → PlanHeld line from (record { family = family; axes = s; bases = bases; polynomials = replicate 6 0; ms = replicate 72 0 })
+  unfolding Says
+  said_bases bases kind b =
+      let front = length-take-le s bases (omega (arith, b.0, few.1)) in
       record {
-        few = omega (arith, u.none);
-        size = ap length u.bases;
-        size_polynomials = ap length u.polynomials;
-        size_ms = ap length u.ms;
-        blank = λ l. u.polynomials;
-        spelled = λ z. absurd (omega (arith, u.number));
-        refused = λ z. rw (u.number, u.axis) (Unspelled.bad_count h);
+        few = few.1;
+        size = b.0;
+        size_polynomials = refl;
+        size_ms = refl;
+        blank = λ l. refl;
+        spelled =
+            rw (plan_halton family s bases (replicate 6 0) (replicate 72 0) kind.1) (
+              kind,
+              head (length (take s bases)) front,
+              λ i h.
+                  let l : i < s = omega arith in
+                  rw (get_or-take s bases i 0 l, ← e) (b.1 i l),
+            );
       }
 
-  module _ (family s end : ℕ) (e : end ≡ axes_from line from) (n : word_text line from ≡ family_word family) (c : s ≡ axes_said line from) (few : OneToSix s) (f : Fault) where
-    head : (k : ℕ) → k ≡ s → Head line from family k
-    head k q = record { named = n; count = sym c ∙ sym q; few = rw q few }
-
-    pub said_axes : (ps ms : List ℕ) → family ≡ 2 → AxesRead line end s f ps ms
-        → Parsed line from (record { fault = f; family = family; axes = s; bases = replicate 6 0; polynomials = ps; ms = ms })
-    unfolding Says
-    said_axes ps ms two a =
-        record {
-          few = few.1;
-          size = refl;
-          size_polynomials = a.size;
-          size_ms = a.size_ms;
-          blank = λ n. absurd (n two);
-          spelled = λ z.
-              rw (plan_sobol family s (replicate 6 0) ps ms two) (
-                rw two at (head (length (axes_of ps ms s)) (length_axes ps ms s)),
-                λ i h.
-                    let l : i < s = omega (arith, length_axes ps ms s) in
-                    rw (axes_at ps ms s i l, ← e) (a.spelled z i l),
-              );
-          refused = λ z.
-              let w = a.refused z in
-              rw w.1 (Unspelled.bad_axis f.code w.0 (rw two at n) (omega (arith, w.2)) (rw e at w.3));
-        }
-
-    pub said_bases : (bases : List ℕ) → HaltonFamily family → BasesRead line end s f bases
-        → Parsed line from (record { fault = f; family = family; axes = s; bases = bases; polynomials = replicate 6 0; ms = replicate 72 0 })
-    unfolding Says
-    said_bases bases kind b =
-        let front = length-take-le s bases (omega (arith, b.size, few.1)) in
-        record {
-          few = few.1;
-          size = b.size;
-          size_polynomials = refl;
-          size_ms = refl;
-          blank = λ l. refl;
-          spelled = λ z.
-              rw (plan_halton family s bases (replicate 6 0) (replicate 72 0) kind.1) (
-                kind,
-                head (length (take s bases)) front,
-                λ i h.
-                    let l : i < s = omega arith in
-                    rw (get_or-take s bases i 0 l, ← e) (b.spelled z i l),
-              );
-          refused = λ z.
-              let w = b.refused z in
-              let v = w.1 in
-              rw (w.0, v.1) (Unspelled.bad_base family v.0 kind n (omega (arith, v.2)) (rw e at v.3));
-        }
+  pub wrong_base : {code axis : ℕ} → HaltonFamily family → (code ≡ 102) × ((i : ℕ) × (axis ≡ i + 1) × (i < s) × NoBase line end i)
+      → Unspelled line from code axis × (code ≢ 0)
+  wrong_base kind b =
+      let v = b.1 in
+      (rw (b.0, v.1) (Unspelled.bad_base family v.0 kind n (omega (arith, v.2)) (rw e at v.3)), λ z. omega (arith, b.0))
 
 -- ---- the family's word
 
-pub named : (word : List ℕ) (f : ℕ) → f < families → word ≡ family_word f → FamilyRead word f
-named word f h e = record { named = λ l. e; none = λ l. absurd (omega arith) }
-
 pub no_family : (word : List ℕ) → (word ≡ family_word 0 → ⊥) → (word ≡ family_word 1 → ⊥) → (word ≡ family_word 2 → ⊥) → (word ≡ family_word 3 → ⊥)
-    → FamilyRead word 4
-no_family word a b c d = record { named = λ l. absurd (omega arith); none = λ l. each }
+    → FamilyRead word None
+no_family word a b c d = each
   where
     each : (f : ℕ) → f < families → word ≡ family_word f → ⊥
     each zero h = a

@@ -1,8 +1,7 @@
 -- The plan that the words of a line say: the family's word, and then a word for each axis, one to six. Definitions only.
-use Rattle.std.specs.Prelude.{◌≡◌, true, List, [], ◌∷◌, ℕ, zero, suc, ◌-◌, ◌<◌, length, get_or, take, drop}
+use Rattle.std.specs.Prelude.{◌≡◌, true, Ok, List, [], ◌∷◌, ℕ, zero, suc, ◌-◌, ◌<◌, length, get_or, take, drop}
 use Rattle.words.specs.Word.{first_word, words_in}
 use Rattle.words.specs.Decimal.{number_of}
-use Rattle.words.specs.declared.Number.TheVariants.{Value}
 use Rattle.plan.specs.Plan.{no_axis, Plan, halton, sobol, OneToSix, HaltonFamily}
 use Rattle.axis_words.specs.Spelled.{AxisWord}
 
@@ -49,6 +48,6 @@ pub record Head (line : List ℕ) (from family s : ℕ) : Type 0 where
 -- the words from this place on say the plan
 unfoldable pub Says : List ℕ → ℕ → Plan → Type 0
 Says line from (halton family bases) = HaltonFamily family × Head line from family (length bases)
-    × ((i : ℕ) → i < length bases → number_of (word_at line (axes_from line from) i) ≡ Value (get_or bases i 0))
+    × ((i : ℕ) → i < length bases → number_of (word_at line (axes_from line from) i) ≡ Ok (get_or bases i 0))
 Says line from (sobol axes) = Head line from 2 (length axes)
     × ((i : ℕ) → i < length axes → AxisWord (word_at line (axes_from line from) i) (get_or axes i no_axis))

@@ -2,7 +2,7 @@
 #![tactic(auto)]
 
 ghost use Rattle.std.specs.Prelude.{◌≤◌, length};
-ghost use Rattle.plan_words.specs.Parsed.{FamilyRead, BasesRead, AxesRead, Unsaid, Parsed};
+ghost use Rattle.plan_words.specs.Parsed.{FamilyRead, BasesRead, AxesRead, Parsed};
 
 use plan::refusal;
 use plan_check::Fault;
@@ -10,107 +10,80 @@ use plan_check::Fault;
 // A base that is no decimal number.
 pub const NOT_A_BASE: u64 = 102;
 
-// The family that a word names; 4 where it names none.
-pub fn family_of(word: &[u8]) -> u64
+// The family that a word names.
+pub fn family_of(word: &[u8]) -> Option<u64>
     ensures { FamilyRead word.now result }
 {
-    if check::same(word, b"halton") {
-        return 0;
+    if word == b"halton".as_slice() {
+        return Some(0);
     }
-    if check::same(word, b"permuted") {
-        return 1;
+    if word == b"permuted".as_slice() {
+        return Some(1);
     }
-    if check::same(word, b"sobol") {
-        return 2;
+    if word == b"sobol".as_slice() {
+        return Some(2);
     }
-    if check::same(word, b"kocis") {
-        return 3;
+    if word == b"kocis".as_slice() {
+        return Some(3);
     }
-    4
+    None
 }
 
 // ---- the axes
 
-// The bases of a plan; or what is wrong with a word.
-#[derive(Clone, Copy)]
-struct BasesSaid {
-    fault: Fault,
-    bases: [u64; 6],
-}
-
 // The bases that `n` words spell, from `from` on.
-fn parse_bases(line: &[u8], from: usize, n: usize) -> BasesSaid
+fn parse_bases(line: &[u8], from: usize, n: usize) -> Result<[u64; 6], Fault>
     requires { (from ≤ length line.now) × (n ≤ 6) }
-    ensures { BasesRead line.now from n result.fault result.bases }
+    ensures { BasesRead line.now from n result }
 {
     let mut bases = [0u64; 6];
     let mut at = from;
-    let mut i = 0;
-    while i < n {
+    for i in 0..n {
         let w = words::find(line, at);
         let start = w.start;
         let end = w.end;
-        let b = axis_words::number(&line[start..end]);
-        if !b.good {
-            let fault = plan_check::report(NOT_A_BASE, i + 1, 0, 0, 0);
-            return BasesSaid { fault, bases };
-        }
-        bases[i] = b.value;
+        let Some(base) = axis_words::number(&line[start..end]) else {
+            return Err(plan_check::report(NOT_A_BASE, i + 1, 0, 0, 0));
+        };
+        bases[i] = base;
         at = end;
-        i += 1;
     }
-    let fault = plan_check::report(0, 0, 0, 0, 0);
-    BasesSaid { fault, bases }
+    Ok(bases)
 }
 
-// The axes of a Sobol plan; or what is wrong with a word.
+// The axes of a Sobol plan, in arrays.
 #[derive(Clone, Copy)]
 struct AxesSaid {
-    fault: Fault,
     polynomials: [u64; 6],
     ms: [u64; 72],
 }
 
 // The Sobol axes that `n` words spell, from `from` on.
-fn parse_axes(line: &[u8], from: usize, n: usize) -> AxesSaid
+fn parse_axes(line: &[u8], from: usize, n: usize) -> Result<AxesSaid, Fault>
     requires { (from ≤ length line.now) × (n ≤ 6) }
-    ensures { AxesRead line.now from n result.fault result.polynomials result.ms }
+    ensures { AxesRead line.now from n result }
 {
     let mut polynomials = [0u64; 6];
     let mut ms = [0u64; 72];
     let mut at = from;
-    let mut i = 0;
-    while i < n {
+    for i in 0..n {
         let w = words::find(line, at);
         let start = w.start;
         let end = w.end;
-        let x = axis_words::parse_axis(&line[start..end], &mut ms, i);
-        if x.code != 0 {
-            let fault = plan_check::report(x.code, i + 1, x.place, x.got, 0);
-            return AxesSaid {
-                fault,
-                polynomials,
-                ms,
-            };
+        match axis_words::parse_axis(&line[start..end], &mut ms, i) {
+            Ok(p) => polynomials[i] = p,
+            Err(x) => return Err(plan_check::report(x.code, i + 1, x.place, x.got, 0)),
         }
-        polynomials[i] = x.polynomial;
         at = end;
-        i += 1;
     }
-    let fault = plan_check::report(0, 0, 0, 0, 0);
-    AxesSaid {
-        fault,
-        polynomials,
-        ms,
-    }
+    Ok(AxesSaid { polynomials, ms })
 }
 
 // ---- the whole
 
-// What is wrong with the words; or nothing, and the plan in arrays, with 0 in the entries that it does not use.
+// The plan in arrays, with 0 in the entries that it does not use.
 #[derive(Clone, Copy)]
 pub struct PlanSaid {
-    pub fault: Fault,
     pub family: u64,
     pub axes: usize,
     pub bases: [u64; 6],
@@ -118,63 +91,40 @@ pub struct PlanSaid {
     pub ms: [u64; 72],
 }
 
-// No plan, of a fault that is no axis's.
-fn unsaid(code: u64, got: u64) -> PlanSaid
-    ensures { Unsaid code result }
-{
-    let fault = plan_check::report(code, 0, 0, got, 0);
-    PlanSaid {
-        fault,
-        family: 0,
-        axes: 0,
-        bases: [0; 6],
-        polynomials: [0; 6],
-        ms: [0; 72],
-    }
-}
-
-// The plan that the words from `from` on say.
-pub fn parse(line: &[u8], from: usize) -> PlanSaid
+// The plan that the words from `from` on say, or what is wrong with the words.
+pub fn parse(line: &[u8], from: usize) -> Result<PlanSaid, Fault>
     requires { from ≤ length line.now }
     ensures { Parsed line.now from result }
 {
     let w = words::find(line, from);
     let start = w.start;
     let end = w.end;
-    let family = family_of(&line[start..end]);
-    if 3 < family {
-        return unsaid(refusal::BAD_FAMILY, 0);
-    }
+    let Some(family) = family_of(&line[start..end]) else {
+        return Err(plan_check::report(refusal::BAD_FAMILY, 0, 0, 0, 0));
+    };
     let axes = words::count(line, end);
     if axes < 1 {
-        return unsaid(refusal::BAD_AXIS_COUNT, axes as u64);
+        return Err(plan_check::report(refusal::BAD_AXIS_COUNT, 0, 0, axes as u64, 0));
     }
     if 6 < axes {
-        return unsaid(refusal::BAD_AXIS_COUNT, axes as u64);
+        return Err(plan_check::report(refusal::BAD_AXIS_COUNT, 0, 0, axes as u64, 0));
     }
     if family == 2 {
-        let a = parse_axes(line, end, axes);
-        let fault = a.fault;
-        let polynomials = a.polynomials;
-        let ms = a.ms;
-        return PlanSaid {
-            fault,
+        let AxesSaid { polynomials, ms } = parse_axes(line, end, axes)?;
+        return Ok(PlanSaid {
             family,
             axes,
             bases: [0; 6],
             polynomials,
             ms,
-        };
+        });
     }
-    let b = parse_bases(line, end, axes);
-    let fault = b.fault;
-    let bases = b.bases;
-    PlanSaid {
-        fault,
+    let bases = parse_bases(line, end, axes)?;
+    Ok(PlanSaid {
         family,
         axes,
         bases,
         polynomials: [0; 6],
         ms: [0; 72],
-    }
+    })
 }

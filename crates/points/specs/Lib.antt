@@ -1,3 +1,4 @@
 pub mod Point
 pub mod Arrays
 pub mod Run
+pub mod PlanAxes

@@ -2,8 +2,13 @@
 #![tactic(auto)]
 
 ghost use Rattle.std.specs.Prelude.{◌≡◌, ℕ, ◌+◌, ◌^◌, ◌<◌};
-ghost use Rattle.points.specs.Arrays.{numerator_at, of_axis, point_at, denominator_at, BaseAt, AxisAt, Arrays, Within};
+ghost use Rattle.points.specs.Arrays.{numerator_at, of_axis, denominator_at, BaseAt, AxisAt, Within};
 ghost use Rattle.points.specs.Run.{run_of, indexes_at, start_in_range, in_range, same_starts, has_starts};
+ghost use Rattle.points.specs.PlanAxes.{axes_point};
+
+mod plan_axes;
+
+pub use plan_axes::PlanAxes;
 
 // ---- runs
 
@@ -21,12 +26,10 @@ pub fn in_range(start: u64, count: u64) -> bool
 pub fn all_in_range(starts: &[u64], count: u64) -> bool
     ensures { result ≡ in_range (run_of starts.now count) }
 {
-    let mut i = 0;
-    while i < starts.len() {
-        if !in_range(starts[i], count) {
+    for n in starts {
+        if !in_range(*n, count) {
             return false;
         }
-        i += 1;
     }
     true
 }
@@ -35,12 +38,10 @@ pub fn all_in_range(starts: &[u64], count: u64) -> bool
 fn same_starts(starts: &[u64]) -> bool
     ensures { result ≡ same_starts starts.now }
 {
-    let mut i = 0;
-    while i < starts.len() {
-        if starts[i] != starts[0] {
+    for n in starts {
+        if *n != starts[0] {
             return false;
         }
-        i += 1;
     }
     true
 }
@@ -64,10 +65,8 @@ pub fn indexes(starts: &[u64], t: u64) -> [u64; 6]
     ensures { (count : ℕ) → result ≡ indexes_at (run_of starts.now count) t }
 {
     let mut ns = [0u64; 6];
-    let mut i = 0;
-    while i < 6 {
+    for i in 0..6 {
         ns[i] = starts[i] + t;
-        i += 1;
     }
     ns
 }
@@ -113,47 +112,27 @@ pub fn denominator(family: u64, bases: &[u64], i: usize) -> u64
 }
 
 // The point `t` places after the first index of each axis, by jumps.
-pub fn point<'a>(
-    family: u64,
-    axes: usize,
-    bases: &'a [u64],
-    directions: &'a [u64],
-    starts: &'a [u64],
-    t: u64,
-) -> [u64; 6]
-    requires { Arrays family axes bases.now directions.now × Within starts.now (t + 1) }
-    ensures { result ≡ point_at family axes bases.now directions.now (λ i. of_axis starts.now i + t) }
+pub fn point(p: PlanAxes, starts: &[u64], t: u64) -> [u64; 6]
+    requires { Within starts.now (t + 1) }
+    ensures { result ≡ axes_point p.entry (λ i. of_axis starts.now i + t) }
 {
     let mut x = [0u64; 6];
-    let mut i = 0;
-    while i < axes {
-        let y = numerator(family, bases, directions, starts[i] + t, i);
+    for i in 0..p.axes {
+        let y = numerator(p.family, p.bases, p.directions, starts[i] + t, i);
         x[i] = y;
-        i += 1;
     }
     x
 }
 
 // The point `t + 1` places after the first index of each axis, by a step from that of `t` places, which is `x`.
-pub fn advance<'a>(
-    family: u64,
-    axes: usize,
-    bases: &'a [u64],
-    directions: &'a [u64],
-    starts: &'a [u64],
-    t: u64,
-    x: [u64; 6],
-) -> [u64; 6]
-    requires { Arrays family axes bases.now directions.now × Within starts.now (t + 2)
-        × (x ≡ point_at family axes bases.now directions.now (λ i. of_axis starts.now i + t)) }
-    ensures { result ≡ point_at family axes bases.now directions.now (λ i. of_axis starts.now i + t + 1) }
+pub fn advance(p: PlanAxes, starts: &[u64], t: u64, x: [u64; 6]) -> [u64; 6]
+    requires { Within starts.now (t + 2) × (x ≡ axes_point p (λ i. of_axis starts.now i + t)) }
+    ensures { result ≡ axes_point p.entry (λ i. of_axis starts.now i + t + 1) }
 {
     let mut y = x;
-    let mut i = 0;
-    while i < axes {
-        let z = next_numerator(family, bases, directions, starts[i] + t, i, y[i]);
+    for i in 0..p.axes {
+        let z = next_numerator(p.family, p.bases, p.directions, starts[i] + t, i, y[i]);
         y[i] = z;
-        i += 1;
     }
     y
 }

@@ -26,11 +26,9 @@ fn squares(p: u64, d: u64) -> [u64; 12]
     let top: u64 = 1 << d;
     let mut words = [0u64; 12];
     let mut x = 1;
-    let mut k = 0;
-    while k < 12 {
-        words[k] = x;
+    for w in words.iter_mut() {
+        *w = x;
         x = times_x(times_x(x, p, top), p, top);
-        k += 1;
     }
     words
 }
@@ -112,11 +110,9 @@ fn all_turned(
     ensures { Begins (power_from d p exponents place) 5 result }
 {
     let mut next = powers;
-    let mut i = 0;
-    while i < 5 {
+    for i in 0..5 {
         let r = turned(next[i], exponents[i], place, low, middle, high, p, d);
         next[i] = r;
-        i += 1;
     }
     next
 }
@@ -134,9 +130,7 @@ fn powers_of_x(
     ensures { Begins (power_at d p exponents) 5 result }
 {
     let mut powers = [1u64; 5];
-    let mut place = d;
-    while 0 < place {
-        place -= 1;
+    for place in (0..d).rev() {
         let next = all_turned(powers, exponents, place, low, middle, high, p, d);
         powers = next;
     }
@@ -188,14 +182,12 @@ pub fn is_primitive(d: u64, p: u64) -> bool
     if powers[0] != 1 {
         return false;
     }
-    let mut i = 0;
-    while i < 4 {
+    for i in 0..4 {
         if 0 < q[i] {
             if powers[i + 1] == 1 {
                 return false;
             }
         }
-        i += 1;
     }
     true
 }

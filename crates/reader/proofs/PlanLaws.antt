@@ -1,7 +1,7 @@
 -- Reading a whole plan: the bits after the last field, a family's body, and the header. Assumes nothing.
 use mathlib.Core.Path.{◌≡◌, refl, sym, ap, ◌∙◌}
 use mathlib.Core.Bool.{Bool, true, false, not, ◌||◌, cond}
-use mathlib.Core.List.{List}
+use mathlib.Core.List.{List, []}
 use Prim.Native.Nat.{ℕ, ◌+◌, ◌*◌, ◌<◌, ◌≤◌}
 use native.Mathlib.Omega.{arith}
 use lib.Dec.{ltb, eqb}
@@ -11,15 +11,14 @@ use borrow.Author.Tests.{ltb-true, ltb-false, le-leb, lt-leb, eq-eqb, ne_eqb}
 use Rattle.numbers.specs.Listed.{padded}
 use Rattle.bits.specs.Stream.{of_bits, bits_of, field_at}
 use Rattle.bits.proofs.StreamLaws.{length_bits}
-use Rattle.plan.specs.Plan.{Plan, halton, sobol}
-use Rattle.plan.specs.Reading.{Step, got, refuse_if, field, and_then, read_body, read_fields, refused, accepted, bad_tail, finish, read_plan}
-use Rattle.plan.specs.Answer.{axes_of, answer_of, step_of}
-use Rattle.plan.specs.declared.PlanRead.{PlanRead}
+use Rattle.plan.specs.Plan.{halton, sobol}
+use Rattle.plan.specs.Reading.{Reading, refuse, refuse_if, field, and_then, read_bases, read_axes, read_body, read_fields, refused, accepted, bad_tail, finish, read_plan}
+use Rattle.plan.specs.Answer.{axes_of, answer_of}
 use Rattle.plan.proofs.AnswerLaws.{length_axes}
 use Rattle.halton_reader.specs.Bases.{BasesAnswer}
 use Rattle.sobol_reader.specs.Axes.{AxesAnswer}
 use Rattle.plan.proofs.BlankLaws.{padded_front}
-use Rattle.plan.proofs.PartLaws.{field_value, finish_stops}
+use Rattle.plan.proofs.PartLaws.{field_value}
 
 -- ---- the bits after the last field
 
@@ -43,62 +42,52 @@ module _ (bytes : List ℕ) (at : ℕ) {r : Bool} (er : r ≡ ltb (length (drop 
 
 -- ---- the body of a plan, as its part's answer tells it
 
-module _ {A : Type 0} (body : Step Plan) (plan : A → Plan) (code : ℕ) (a : A) (l : List ℕ) (e : body ≡ and_then (step_of code a l) λ x r. got (plan x) r) where
-  refuses : (code ≡ 0 → ⊥) → {r : PlanRead} → r ≡ answer_of (refused code) → r ≡ answer_of (finish body)
-  refuses z f = f ∙ sym (ap answer_of (ap finish e ∙ finish_stops code a l _ z))
-
-  module _ (z : code ≡ 0) {t : Bool} (et : t ≡ bad_tail l) where
-    closes : finish body ≡ cond t (refused 10) (accepted (plan a))
-    unfolding finish and_then
-    closes = rw (e, z, ← et) refl
-
-    refuses_tail : t ≡ true → {r : PlanRead} → r ≡ answer_of (refused 10) → r ≡ answer_of (finish body)
-    refuses_tail b f = f ∙ sym (ap answer_of (closes ∙ rw b refl))
-
 -- the reading of a plan of these bases or axes, from bit 5 on
-abbrev halton_reading : List ℕ → ℕ → ℕ → PlanRead
-halton_reading bytes family axes = answer_of (finish (read_body false family axes (drop 5 (bits_of bytes))))
+abbrev halton_reading : List ℕ → ℕ → ℕ → Reading
+halton_reading bytes family axes = finish (read_body false family axes (drop 5 (bits_of bytes)))
 
-abbrev sobol_reading : List ℕ → ℕ → PlanRead
-sobol_reading bytes axes = answer_of (finish (read_body true 2 axes (drop 5 (bits_of bytes))))
+abbrev sobol_reading : List ℕ → ℕ → Reading
+sobol_reading bytes axes = finish (read_body true 2 axes (drop 5 (bits_of bytes)))
 
-module _ (bytes : List ℕ) (family axes : ℕ) {code at : ℕ} {bases : List ℕ} (h : BasesAnswer bytes axes code at bases) where
-  halton_body : read_body false family axes (drop 5 (bits_of bytes)) ≡ and_then (step_of code (take axes bases) (drop at (bits_of bytes))) λ x r. got (halton family x) r
-  unfolding read_body
-  halton_body = rw h.step refl
+pub halton_stop : (bytes : List ℕ) (family axes : ℕ) {n : ℕ} → read_bases axes [] (drop 5 (bits_of bytes)) ≡ refuse n → halton_reading bytes family axes ≡ refused n
+unfolding read_body and_then finish
+halton_stop bytes family axes e = rw e refl
 
-  pub halton_stop : (code ≡ 0 → ⊥) → {r : PlanRead} → r ≡ answer_of (refused code) → r ≡ halton_reading bytes family axes
-  halton_stop z f = refuses _ (halton family) code _ _ halton_body z f
+module _ (bytes : List ℕ) (family axes : ℕ) {at : ℕ} {bases : List ℕ} (h : BasesAnswer bytes axes at bases)
+    {t : Bool} (et : t ≡ bad_tail (drop at (bits_of bytes))) where
+  halton_body : halton_reading bytes family axes ≡ cond t (refused 10) (accepted (halton family (take axes bases)))
+  unfolding read_body and_then finish
+  halton_body = rw (h.step, ← et) refl
 
-  module _ (z : code ≡ 0) {t : Bool} (et : t ≡ bad_tail (drop at (bits_of bytes))) where
-    pub halton_tail : t ≡ true → {r : PlanRead} → r ≡ answer_of (refused 10) → r ≡ halton_reading bytes family axes
-    halton_tail b f = refuses_tail _ (halton family) code _ _ halton_body z et b f
+  pub halton_tail : t ≡ true → halton_reading bytes family axes ≡ refused 10
+  halton_tail b = halton_body ∙ rw b refl
 
-    pub halton_end : t ≡ false → axes ≤ 6
-        → record { code = 0; family = family; axes = axes; bases = bases; polynomials = replicate 6 0; ms = replicate 72 0 } ≡ halton_reading bytes family axes
-    unfolding answer_of
-    halton_end b most =
-        let n : length (take axes bases) ≡ axes = length-take-le axes bases (omega arith) in
-        let whole : bases ≡ padded 6 (take axes bases) = padded_front 6 axes bases h.size most h.blank in
-        rw (closes _ (halton family) code _ _ halton_body z et, b, n, ← whole) refl
+  pub halton_end : t ≡ false → axes ≤ 6
+      → record { code = 0; family = family; axes = axes; bases = bases; polynomials = replicate 6 0; ms = replicate 72 0 } ≡ answer_of (halton_reading bytes family axes)
+  unfolding answer_of
+  halton_end b most =
+      let n : length (take axes bases) ≡ axes = length-take-le axes bases (omega arith) in
+      let whole : bases ≡ padded 6 (take axes bases) = padded_front 6 axes bases h.size most h.blank in
+      rw (halton_body, b, n, ← whole) refl
 
-module _ (bytes : List ℕ) (axes : ℕ) {code at : ℕ} {ps ms : List ℕ} (h : AxesAnswer bytes axes code at ps ms) where
-  sobol_body : read_body true 2 axes (drop 5 (bits_of bytes)) ≡ and_then (step_of code (axes_of ps ms axes) (drop at (bits_of bytes))) λ x r. got (sobol x) r
-  unfolding read_body
-  sobol_body = rw h.step refl
+pub sobol_stop : (bytes : List ℕ) (axes : ℕ) {n : ℕ} → read_axes axes [] (drop 5 (bits_of bytes)) ≡ refuse n → sobol_reading bytes axes ≡ refused n
+unfolding read_body and_then finish
+sobol_stop bytes axes e = rw e refl
 
-  pub sobol_stop : (code ≡ 0 → ⊥) → {r : PlanRead} → r ≡ answer_of (refused code) → r ≡ sobol_reading bytes axes
-  sobol_stop z f = refuses _ sobol code _ _ sobol_body z f
+module _ (bytes : List ℕ) (axes : ℕ) {at : ℕ} {ps ms : List ℕ} (h : AxesAnswer bytes axes at ps ms)
+    {t : Bool} (et : t ≡ bad_tail (drop at (bits_of bytes))) where
+  sobol_body : sobol_reading bytes axes ≡ cond t (refused 10) (accepted (sobol (axes_of ps ms axes)))
+  unfolding read_body and_then finish
+  sobol_body = rw (h.step, ← et) refl
 
-  module _ (z : code ≡ 0) {t : Bool} (et : t ≡ bad_tail (drop at (bits_of bytes))) where
-    pub sobol_tail : t ≡ true → {r : PlanRead} → r ≡ answer_of (refused 10) → r ≡ sobol_reading bytes axes
-    sobol_tail b f = refuses_tail _ sobol code _ _ sobol_body z et b f
+  pub sobol_tail : t ≡ true → sobol_reading bytes axes ≡ refused 10
+  sobol_tail b = sobol_body ∙ rw b refl
 
-    pub sobol_end : t ≡ false → record { code = 0; family = 2; axes = axes; bases = replicate 6 0; polynomials = ps; ms = ms } ≡ sobol_reading bytes axes
-    unfolding answer_of
-    sobol_end b =
-        let arrays = h.flat z in
-        rw (closes _ sobol code _ _ sobol_body z et, b, length_axes ps ms axes, ← arrays.polynomials, ← arrays.blocks) refl
+  pub sobol_end : t ≡ false → record { code = 0; family = 2; axes = axes; bases = replicate 6 0; polynomials = ps; ms = ms } ≡ answer_of (sobol_reading bytes axes)
+  unfolding answer_of
+  sobol_end b =
+      let arrays = h.flat in
+      rw (sobol_body, b, length_axes ps ms axes, ← arrays.polynomials, ← arrays.blocks) refl
 
 -- ---- the header
 

@@ -7,23 +7,14 @@ ghost use Rattle.calls.specs.Calls.{blocked, step_spec, step_buf, block_spec, bl
 
 use calls::{Blocked, Moved};
 use plan::refusal;
+use points::PlanAxes;
 use state::Sampler;
 
 // Writes the run's next point to the front of `out`, and moves on by one.
 pub fn step(s: Sampler, out: &mut [u64]) -> Moved
     ensures { (result ≡ step_spec s out.old) × (out.new ≡ step_buf s out.old) }
 {
-    if !genuine::is_genuine(
-        s.family,
-        s.axes,
-        &s.bases,
-        &s.polynomials,
-        &s.directions,
-        &s.starts,
-        s.count,
-        s.taken,
-        &s.numerators,
-    ) {
+    if !genuine::is_genuine(&s) {
         return calls::refused(refusal::INVALID_STATE, s);
     }
     let axes = s.axes;
@@ -35,16 +26,13 @@ pub fn step(s: Sampler, out: &mut [u64]) -> Moved
     }
     let x = s.numerators;
     bits::store(out, 0, &x[..axes]);
-    let next = state::point_after(
-        s.family,
-        axes,
-        &s.bases,
-        &s.directions,
-        &s.starts,
-        s.count,
-        s.taken,
-        x,
-    );
+    let p = PlanAxes {
+        family: s.family,
+        axes: s.axes,
+        bases: &s.bases,
+        directions: &s.directions,
+    };
+    let next = state::point_after(p, &s.starts, s.count, s.taken, x);
     let t = state::moved_on(s, s.taken + 1, next);
     Moved { code: 0, state: t }
 }
@@ -80,17 +68,7 @@ pub fn block_rows(s: Sampler, lead: usize, out: &mut [u64]) -> Blocked
     ensures { (result ≡ rows_spec lead s out.old)
         × Columns (row_numerator s) 0 result.points (lead + s.axes) lead s.axes out.old out.new }
 {
-    if !genuine::is_genuine(
-        s.family,
-        s.axes,
-        &s.bases,
-        &s.polynomials,
-        &s.directions,
-        &s.starts,
-        s.count,
-        s.taken,
-        &s.numerators,
-    ) {
+    if !genuine::is_genuine(&s) {
         return no_block(refusal::INVALID_STATE, s);
     }
     let axes = s.axes;
@@ -103,17 +81,15 @@ pub fn block_rows(s: Sampler, lead: usize, out: &mut [u64]) -> Blocked
     }
     let k = block_size(s.count - s.taken, out.len(), width);
     let ns = points::indexes(&s.starts, s.taken);
-    blocks::fill(out, lead, s.family, axes, &s.bases, &s.directions, &ns, k);
+    let p = PlanAxes {
+        family: s.family,
+        axes: s.axes,
+        bases: &s.bases,
+        directions: &s.directions,
+    };
+    blocks::fill(out, lead, p, &ns, k);
     let taken = s.taken + (k as u64);
-    let next = state::next_point(
-        s.family,
-        axes,
-        &s.bases,
-        &s.directions,
-        &s.starts,
-        s.count,
-        taken,
-    );
+    let next = state::next_point(p, &s.starts, s.count, taken);
     let t = state::moved_on(s, taken, next);
     Blocked {
         code: 0,

@@ -21,13 +21,10 @@ fn m_rule(m: &[u64; 32], d: usize, p: u64, i: usize) -> u64
     ensures { result ≡ m_rule d p m.now i }
 {
     let mut x = m[i - d];
-    let mut k = 0;
-    while k < d {
-        let j = k + 1;
+    for j in 1..d + 1 {
         if (p >> (d - j)) & 1 == 1 {
             x = x ^ (m[i - j] << j);
         }
-        k = j;
     }
     x
 }
@@ -52,11 +49,9 @@ pub fn m_list(d: usize, p: u64, given: &[u64]) -> [u64; 32]
     ensures { result ≡ m_list d p given.now 32 }
 {
     let mut m = [0u64; 32];
-    let mut i = 0;
-    while i < 32 {
+    for i in 0..32 {
         let x = m_next(&m, d, p, given, i);
         m[i] = x;
-        i += 1;
     }
     m
 }
@@ -67,10 +62,8 @@ fn scale(m: [u64; 32]) -> [u64; 32]
     ensures { result ≡ scaled 0 m }
 {
     let mut v = [0u64; 32];
-    let mut i = 0;
-    while i < 32 {
+    for i in 0..32 {
         v[i] = m[i] << (31 - i);
-        i += 1;
     }
     v
 }

@@ -15,10 +15,8 @@ pub fn sobol_column(v: &[u64], n: u64, lo: usize, hi: usize, s: usize, j: usize,
     }
     let mut x = sobol::jump(v, n + (lo as u64));
     out[lo * s + j] = x;
-    let mut i = lo + 1;
-    while i < hi {
+    for i in lo + 1..hi {
         x = sobol::step(v, n + (i as u64) - 1, x);
         out[i * s + j] = x;
-        i += 1;
     }
 }

@@ -15,10 +15,8 @@ fn run(base: u32, t: &[u32], r: usize, lo: usize, hi: usize, limit: u32, l: &mut
     requires { (lo ≤ hi) × (hi - lo + r ≤ length t.now) × (hi ≤ length l.old) }
     ensures { Marked (tile_of bit_xor base t.now lo r) limit lo hi l.old l.new }
 {
-    let mut i = lo;
-    while i < hi {
+    for i in lo..hi {
         l[i] = marks::keep((base ^ t[i - lo + r]) as u64, limit as u64, l[i]);
-        i += 1;
     }
 }
 

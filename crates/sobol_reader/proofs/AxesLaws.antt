@@ -14,11 +14,10 @@ use Rattle.binary.proofs.DegreeLaws.{degree_of_lem}
 use Rattle.bits.specs.Stream.{bits_of, overwrite}
 use Rattle.bits.proofs.OverwriteLaws.{over_is, length_over, take_over, drop_over}
 use Rattle.plan.specs.Plan.{Axis}
-use Rattle.plan.specs.Reading.{and_then, read_axes}
-use Rattle.plan.specs.Answer.{polynomials_of, ms_of, axis_at, axes_of, step_of}
+use Rattle.plan.specs.Reading.{Step, refuse, and_then, read_axis, read_axes}
+use Rattle.plan.specs.Answer.{polynomials_of, ms_of, axis_at, axes_of}
 use Rattle.sobol_reader.specs.Axes.{AxisAnswer, AxesAnswer}
 use Rattle.plan.proofs.BlankLaws.{blank_drop, blank_set, padded_front}
-use Rattle.plan.proofs.PartLaws.{then_stops}
 
 -- ---- a list with a block written over it from place q on
 
@@ -124,15 +123,19 @@ axes_start bytes axes h =
       same = ap (λ (k : ℕ). read_axes k [] (drop 5 (bits_of bytes))) (omega arith);
     }
 
+-- the reading of so many axes, from bit 5 on
+abbrev pub axes_reading : List ℕ → ℕ → Step (List Axis)
+axes_reading bytes axes = read_axes axes [] (drop 5 (bits_of bytes))
+
 module _ {bytes : List ℕ} {axes : ℕ} {ps ms : List ℕ} {at i : ℕ} (inv : AxesLoop bytes axes ps ms at i) (most : axes ≤ 6) where
-  pub axes_end : axes ≤ i → AxesAnswer bytes axes 0 at ps ms
+  pub axes_end : axes ≤ i → AxesAnswer bytes axes at ps ms
   unfolding read_axes
   axes_end h =
       let e : i ≡ axes = omega arith in
       let z : axes - i ≡ 0 = omega arith in
       record {
         step = inv.same ∙ rw (z, e) refl;
-        flat = λ q. rw (← e)
+        flat = rw (← e)
             (record {
               polynomials = rw (polynomials_of_lem ps ms i (omega arith)) (padded_front 6 i ps inv.size_ps (omega arith) inv.blank_ps);
               blocks = rw (← inv.blocks) (padded_front 72 (12 * i) ms inv.size_ms (omega arith) inv.blank_ms);
@@ -141,25 +144,24 @@ module _ {bytes : List ℕ} {axes : ℕ} {ps ms : List ℕ} {at i : ℕ} (inv : 
         near = omega arith;
       }
 
-  module _ (h : i < axes) {code at' d p : ℕ} {block : List ℕ} (x : AxisAnswer bytes at i ps code at' d p block) where
-    turn : read_axes axes [] (drop 5 (bits_of bytes))
-        ≡ and_then (step_of code (record { polynomial = p; ms = take d block }) (drop at' (bits_of bytes))) λ y r. read_axes (axes - (i + 1)) (axes_of ps ms i ++ y ∷ []) r
+  module _ (h : i < axes) where
+    turn : {x : Step Axis} → read_axis (axes_of ps ms i) (drop at (bits_of bytes)) ≡ x
+        → axes_reading bytes axes ≡ and_then x λ y r. read_axes (axes - (i + 1)) (axes_of ps ms i ++ y ∷ []) r
     unfolding read_axes
-    turn =
+    turn e =
         let left : axes - i ≡ suc (axes - (i + 1)) = omega arith in
-        inv.same ∙ rw left (rw (x.step ms) refl)
+        inv.same ∙ rw left (rw e refl)
 
-    -- any other code is right for the answer of `no_axes`
-    pub axes_stop : (code ≡ 0 → ⊥) → {code' at2 : ℕ} {ps' ms' : List ℕ} → (code' ≡ code) × (at2 ≡ 0) → AxesAnswer bytes axes code' at2 ps' ms'
-    axes_stop z f =
-        rw (f.0, f.1)
-        (record { step = turn ∙ then_stops code _ _ _ _ _ z; flat = λ q. absurd (z q); within = omega arith; near = omega arith })
-
-    pub axes_next : code ≡ 0 → AxesLoop bytes axes (set ps i p) (overwrite ms (12 * i) block) at' (i + 1)
+    pub axes_stop : {k : ℕ} → ((b : List ℕ) → read_axis (axes_of ps b i) (drop at (bits_of bytes)) ≡ refuse k) → axes_reading bytes axes ≡ refuse k
     unfolding and_then
-    axes_next z =
+    axes_stop e = turn (e ms)
+
+    pub axes_next : {at' d p : ℕ} {block : List ℕ} → AxisAnswer bytes at i ps at' d p block
+        → AxesLoop bytes axes (set ps i p) (overwrite ms (12 * i) block) at' (i + 1)
+    unfolding and_then
+    axes_next {at'} {d} {p} {block} x =
         let room : 12 * i ≤ length ms = omega arith in
-        let ed : degree_of p ≡ d = degree_of_lem (x.has_degree z) in
+        let ed : degree_of p ≡ d = degree_of_lem x.has_degree in
         let all : axes_of (set ps i p) (overwrite ms (12 * i) block) (i + 1) ≡ axes_of ps ms i ++ record { polynomial = p; ms = take d block } ∷ [] =
         grown ps ms i p d block room inv.low (omega arith) x.size x.degree_high ed in
         let ends : 12 * (i + 1) ≡ 12 * i + length block = omega arith in
@@ -176,5 +178,5 @@ module _ {bytes : List ℕ} {axes : ℕ} {ps ms : List ℕ} {at i : ℕ} (inv : 
           blocks = take_over ms (12 * i) block (12 * (i + 1)) room ends
               ∙ ap₂ (λ (a b : List ℕ). a ++ b) inv.blocks (padded_front 12 d block x.size x.degree_high x.blank)
               ∙ sym (ap ms_of all ∙ ms_snoc (axes_of ps ms i) (record { polynomial = p; ms = take d block }));
-          same = turn ∙ rw z refl ∙ ap (λ (l : List Axis). read_axes (axes - (i + 1)) l (drop at' (bits_of bytes))) (sym all);
+          same = turn (x.step ms) ∙ ap (λ (l : List Axis). read_axes (axes - (i + 1)) l (drop at' (bits_of bytes))) (sym all);
         }

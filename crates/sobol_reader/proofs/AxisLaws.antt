@@ -3,21 +3,23 @@ use mathlib.Core.Path.{◌≡◌, refl, sym, ap, ◌∙◌}
 use mathlib.Core.Bool.{Bool, true, false, ◌||◌, or-false, or-true, or_assoc}
 use mathlib.Core.List.{List, [], ◌∷◌, ◌++◌}
 use Prim.Native.Nat.{ℕ, zero, suc, ◌+◌, ◌-◌, ◌<◌, ◌≤◌}
+use native.Mathlib.Numerals.{add-one}
 use native.Mathlib.Omega.{arith}
 use lib.Dec.{ltb, eqb}
-use lib.ListN.{length, take, drop, get_or, replicate}
+use lib.ListN.{length, take, drop, get_or}
 use lib.Seq.{drop-drop}
 use borrow.Author.Tests.{lt-ltb, le-ltb, eq-eqb, ne_eqb}
 use Rattle.binary.specs.Polynomial.{Degree}
 use Rattle.bits.specs.Stream.{of_bits, bits_of, field_at}
 use Rattle.bits.proofs.StreamLaws.{field_lt}
 use Rattle.plan.specs.Plan.{Axis}
-use Rattle.plan.specs.Reading.{refuse, refuse_if, field, and_then, polynomial_of, not_primitive, is_repeated, read_ms, read_axis}
-use Rattle.plan.specs.Answer.{axis_at, axes_of, step_of}
+use Rattle.plan.specs.Reading.{Step, refuse, refuse_if, field, and_then, polynomial_of, not_primitive, is_repeated, read_ms, read_axis}
+use Rattle.plan.specs.Answer.{axis_at, axes_of}
 use Rattle.plan.proofs.TestLaws.{polynomial_degree}
 use Rattle.plan.proofs.StepLaws.{after_ms}
 use Rattle.sobol_reader.specs.Axes.{MsAnswer, AxisAnswer}
-use Rattle.plan.proofs.PartLaws.{field_value, step_stops}
+use Rattle.sobol_reader.proofs.MsLaws.{ms_reading}
+use Rattle.plan.proofs.PartLaws.{field_value}
 
 -- ---- a polynomial against those of the first n axes of arrays
 
@@ -27,26 +29,34 @@ repeated_snoc p [] x = or-false (eqb p x.polynomial)
 repeated_snoc p (y ∷ axes) x =
     ap (λ (b : Bool). eqb p y.polynomial || b) (repeated_snoc p axes x) ∙ sym (or_assoc (eqb p y.polynomial) (is_repeated p axes) (eqb p x.polynomial))
 
--- p is among the first n polynomials exactly if it is among the first j, whatever the m's
-pub record RepeatedLoop (p : ℕ) (ps : List ℕ) (n j : ℕ) : Type 0 where
-  pub count : j ≤ n
-  pub same : (ms : List ℕ) → is_repeated p (axes_of ps ms n) ≡ is_repeated p (axes_of ps ms j)
+-- p is not among the first j polynomials, whatever the m's
+pub record RepeatedLoop (p : ℕ) (ps : List ℕ) (j : ℕ) : Type 0 where
+  pub none : (ms : List ℕ) → is_repeated p (axes_of ps ms j) ≡ false
 
-module _ {p : ℕ} {ps : List ℕ} {n k : ℕ} (inv : RepeatedLoop p ps n k) where
-  pub repeated_end : k ≡ 0 → (ms : List ℕ) → false ≡ is_repeated p (axes_of ps ms n)
-  unfolding axes_of is_repeated
-  repeated_end e ms = sym (inv.same ms ∙ rw e refl)
+module _ (p : ℕ) (ps ms : List ℕ) where
+  one_more : (j : ℕ) → is_repeated p (axes_of ps ms (suc j)) ≡ is_repeated p (axes_of ps ms j) || eqb p (get_or ps j 0)
+  unfolding axes_of
+  one_more j = repeated_snoc p (axes_of ps ms j) (axis_at ps ms j)
 
-  module _ (j : ℕ) (ek : k ≡ suc j) where
-    last : (ms : List ℕ) → is_repeated p (axes_of ps ms n) ≡ is_repeated p (axes_of ps ms j) || eqb p (get_or ps j 0)
-    unfolding axes_of
-    last ms = inv.same ms ∙ ap (λ (i : ℕ). is_repeated p (axes_of ps ms i)) ek ∙ repeated_snoc p (axes_of ps ms j) (axis_at ps ms j)
+  -- d places after place j
+  repeated_after : (j d n : ℕ) → n ≡ d + j → p ≡ get_or ps j 0 → is_repeated p (axes_of ps ms (suc n)) ≡ true
+  repeated_after j zero n h e =
+      let same : n ≡ j = omega arith in
+      one_more n ∙ rw (same, eq-eqb p (get_or ps j 0) e) (or-true (is_repeated p (axes_of ps ms j)))
+  repeated_after j (suc d) zero h e = absurd (omega arith)
+  repeated_after j (suc d) (suc n) h e = one_more (suc n) ∙ rw (repeated_after j d n (omega arith) e) refl
 
-    pub repeated_stop : p ≡ get_or ps j 0 → (ms : List ℕ) → true ≡ is_repeated p (axes_of ps ms n)
-    repeated_stop e ms = sym (last ms ∙ rw (eq-eqb p (get_or ps j 0) e) (or-true (is_repeated p (axes_of ps ms j))))
+  pub repeated_stop : (j n : ℕ) → j < n → p ≡ get_or ps j 0 → true ≡ is_repeated p (axes_of ps ms n)
+  repeated_stop j zero h e = absurd (omega arith)
+  repeated_stop j (suc n) h e = sym (repeated_after j (n - j) n (omega arith) e)
 
-    pub repeated_next : (p ≡ get_or ps j 0 → ⊥) → RepeatedLoop p ps n j
-    repeated_next f = record { count = omega arith; same = λ ms. last ms ∙ rw (ne_eqb p (get_or ps j 0) f) (or-false (is_repeated p (axes_of ps ms j))) }
+pub repeated_none : (p : ℕ) (ps : List ℕ) → RepeatedLoop p ps 0
+unfolding axes_of is_repeated
+repeated_none p ps = record { none = λ ms. refl }
+
+pub repeated_next : {p : ℕ} {ps : List ℕ} {j : ℕ} → RepeatedLoop p ps j → (p ≡ get_or ps j 0 → ⊥) → RepeatedLoop p ps (j + 1)
+repeated_next {p} {ps} {j} inv f =
+    record { none = λ ms. rw (add-one, one_more p ps ms j, inv.none ms, ne_eqb p (get_or ps j 0) f) refl }
 
 -- ---- an axis of the reading, by the tests
 
@@ -78,12 +88,6 @@ module _ (earlier : List Axis) (l : List ℕ) (d : ℕ) (e : ltb (length l) 4 �
         unfolding read_axis field
         fit t = unfold refuse_if in (rw (e, ed, f, g, ep, u, t) refl)
 
--- the code that the m's answer is the axis's
-passed_on : (code p : ℕ) (ms l : List ℕ) → and_then (step_of code ms l) (after_ms p) ≡ step_of code (record { polynomial = p; ms = ms }) l
-unfolding and_then
-passed_on zero p ms l = refl
-passed_on (suc n) p ms l = refl
-
 -- ---- what `read_axis` has read
 
 -- the degree
@@ -106,36 +110,19 @@ polynomial_fits {bytes} {start} {d} {w} h =
 -- ---- the answers of `read_axis`
 
 module _ (bytes ps : List ℕ) (start n : ℕ) where
-  -- number k is right for the answer of `no_axis`
-  abbrev pub AxisStop : ℕ → Type 0
-  AxisStop k = (code at degree p : ℕ) (ms : List ℕ) → (code ≡ k) × (at ≡ 0) × (degree ≡ 0) × (ms ≡ replicate 12 0)
-      → AxisAnswer bytes start n ps code at degree p ms
+  -- the reading of the axis refuses with number k, whatever the m's of the earlier axes
+  abbrev pub AxisRefused : ℕ → Type 0
+  AxisRefused k = (b : List ℕ) → read_axis (axes_of ps b n) (drop start (bits_of bytes)) ≡ refuse k
 
-  axis_refused : (k : ℕ) → (k ≡ 0 → ⊥) → (x : Axis) (l : List ℕ) → ((b : List ℕ) → read_axis (axes_of ps b n) (drop start (bits_of bytes)) ≡ step_of k x l) → AxisStop k
-  axis_refused k z x l e code at degree p ms f =
-      rw (f.0, f.1, f.2, f.3)
-      (record {
-        step = λ b. e b ∙ step_stops k x _ l _ z;
-        blank = refl;
-        size = refl;
-        degree_high = omega arith;
-        has_degree = λ q. absurd (z q);
-        within = omega arith;
-        near = omega arith;
-      })
-
-  axis_refuses : (k : ℕ) → ((b : List ℕ) → read_axis (axes_of ps b n) (drop start (bits_of bytes)) ≡ refuse (suc k)) → AxisStop (suc k)
-  axis_refuses k e = axis_refused (suc k) (λ q. omega arith) (record { polynomial = 0; ms = [] }) [] e
-
-  pub axis_short : {r : Bool} → r ≡ ltb (length (drop start (bits_of bytes))) 4 → r ≡ true → AxisStop 1
-  axis_short er t = axis_refuses 0 (λ b. short_degree _ _ (sym er ∙ t))
+  pub axis_short : {r : Bool} → r ≡ ltb (length (drop start (bits_of bytes))) 4 → r ≡ true → AxisRefused 1
+  axis_short er t = λ b. short_degree _ _ (sym er ∙ t)
 
   module _ {d : ℕ} (h : DegreeRead bytes start d) where
     is_d : of_bits (take 4 (drop start (bits_of bytes))) ≡ d
     is_d = field_value bytes start 4 h.value
 
-    pub axis_high : 12 < d → AxisStop 6
-    axis_high g = axis_refuses 5 (λ b. bad_degree _ _ d h.long is_d (lt-ltb 12 d g))
+    pub axis_high : 12 < d → AxisRefused 6
+    axis_high g = λ b. bad_degree _ _ d h.long is_d (lt-ltb 12 d g)
 
     module _ (most : d ≤ 12) {w : ℕ} (ew : w ≡ d - 1) {r : Bool} (er : r ≡ ltb (length (drop (start + 4) (bits_of bytes))) w) where
       on : drop 4 (drop start (bits_of bytes)) ≡ drop (start + 4) (bits_of bytes)
@@ -144,8 +131,8 @@ module _ (bytes ps : List ℕ) (start n : ℕ) where
       decides : ltb (length (drop 4 (drop start (bits_of bytes)))) (d - 1) ≡ r
       decides = rw (on, ← ew) (sym er)
 
-      pub axis_cut : r ≡ true → AxisStop 1
-      axis_cut t = axis_refuses 0 (λ b. short_coefficients _ _ d h.long is_d (le-ltb 12 d most) (decides ∙ t))
+      pub axis_cut : r ≡ true → AxisRefused 1
+      axis_cut t = λ b. short_coefficients _ _ d h.long is_d (le-ltb 12 d most) (decides ∙ t)
 
   module _ {d w p : ℕ} (h : PolynomialRead bytes start d w p) {u : Bool} (eu : u ≡ not_primitive d p) where
     is_p : polynomial_of d (of_bits (take (d - 1) (drop 4 (drop start (bits_of bytes))))) ≡ p
@@ -154,32 +141,34 @@ module _ (bytes ps : List ℕ) (start n : ℕ) where
     long : ltb (length (drop 4 (drop start (bits_of bytes)))) (d - 1) ≡ false
     long = decides h.degree h.most h.width (sym h.long)
 
-    pub axis_unfit : u ≡ true → AxisStop 7
-    axis_unfit t = axis_refuses 6 (λ b. unfit _ _ d h.degree.long (is_d h.degree) (le-ltb 12 d h.most) long p is_p (sym eu ∙ t))
+    pub axis_unfit : u ≡ true → AxisRefused 7
+    axis_unfit t = λ b. unfit _ _ d h.degree.long (is_d h.degree) (le-ltb 12 d h.most) long p is_p (sym eu ∙ t)
 
     module _ (tu : u ≡ false) {t : Bool} (et : (b : List ℕ) → t ≡ is_repeated p (axes_of ps b n)) where
-      pub axis_twin : t ≡ true → AxisStop 9
+      pub axis_twin : t ≡ true → AxisRefused 9
       axis_twin r =
-          axis_refuses 8 (λ b. twin _ _ d h.degree.long (is_d h.degree) (le-ltb 12 d h.most) long p is_p (sym eu ∙ tu) (sym (et b) ∙ r))
+          λ b. twin _ _ d h.degree.long (is_d h.degree) (le-ltb 12 d h.most) long p is_p (sym eu ∙ tu) (sym (et b) ∙ r)
 
-      module _ (nt : t ≡ false) {code at : ℕ} {ms : List ℕ} (m : MsAnswer bytes (start + 4 + w) d code at ms) where
-        answered : (b : List ℕ) → read_axis (axes_of ps b n) (drop start (bits_of bytes)) ≡ step_of code (record { polynomial = p; ms = take d ms }) (drop at (bits_of bytes))
-        answered b =
+      module _ (nt : t ≡ false) where
+        to_ms : {m : Step (List ℕ)} → ms_reading bytes (start + 4 + w) d ≡ m → (b : List ℕ)
+            → read_axis (axes_of ps b n) (drop start (bits_of bytes)) ≡ and_then m (after_ms p)
+        to_ms e b =
             fit _ _ d h.degree.long (is_d h.degree) (le-ltb 12 d h.most) long p is_p (sym eu ∙ tu) (sym (et b) ∙ nt)
-            ∙ rw (drop-drop 4 start (bits_of bytes), ← h.width, drop-drop w (start + 4) (bits_of bytes), m.step)
-            (passed_on code p (take d ms) (drop at (bits_of bytes)))
+            ∙ rw (drop-drop 4 start (bits_of bytes), ← h.width, drop-drop w (start + 4) (bits_of bytes), e) refl
 
-        pub axis_stop : (code ≡ 0 → ⊥) → AxisStop code
-        axis_stop z = axis_refused code z _ _ answered
+        pub axis_stop : {k : ℕ} → ms_reading bytes (start + 4 + w) d ≡ refuse k → AxisRefused k
+        unfolding and_then
+        axis_stop e b = to_ms e b
 
-        pub axis_end : code ≡ 0 → AxisAnswer bytes start n ps 0 at d p ms
-        axis_end z =
+        pub axis_end : {at : ℕ} {ms : List ℕ} → MsAnswer bytes (start + 4 + w) d at ms → AxisAnswer bytes start n ps at d p ms
+        unfolding and_then
+        axis_end m =
             record {
-              step = λ b. answered b ∙ rw z refl;
+              step = to_ms m.step;
               blank = m.blank;
               size = m.size;
               degree_high = h.most;
-              has_degree = λ q. polynomial_fits h;
+              has_degree = polynomial_fits h;
               within = m.within;
               near = omega arith;
             }

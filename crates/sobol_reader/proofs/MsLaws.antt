@@ -12,9 +12,9 @@ use lib.Seq.{drop-drop, take-suc-set}
 use borrow.Author.Tests.{eq-eqb, ne_eqb}
 use Rattle.bits.specs.Stream.{of_bits, bits_of, field_at}
 use Rattle.bits.proofs.ByteLaws.{lowest_bit}
-use Rattle.plan.specs.Reading.{refuse, refuse_if, field, read_ms}
+use Rattle.plan.specs.Reading.{Step, refuse, refuse_if, field, read_ms}
 use Rattle.sobol_reader.specs.Axes.{MsAnswer}
-use Rattle.plan.proofs.BlankLaws.{drop_zeros, blank_set}
+use Rattle.plan.proofs.BlankLaws.{blank_set}
 use Rattle.plan.proofs.PartLaws.{long_field, field_value}
 
 -- ---- one m of the reading, by the tests
@@ -53,16 +53,12 @@ ms_start bytes start degree h =
       same = ap (λ (k : ℕ). read_ms k 1 [] (drop start (bits_of bytes))) (omega arith);
     }
 
--- number n is right for the answer of `no_ms`
-abbrev pub MsStop : List ℕ → ℕ → ℕ → ℕ → Type 0
-MsStop bytes start degree n = (code at : ℕ) (ms : List ℕ) → (code ≡ n) × (at ≡ 0) × (ms ≡ replicate 12 0) → MsAnswer bytes start degree code at ms
-
-ms_refused : (bytes : List ℕ) (start degree n : ℕ) → read_ms degree 1 [] (drop start (bits_of bytes)) ≡ refuse (suc n) → MsStop bytes start degree (suc n)
-ms_refused bytes start degree n e code at ms f =
-    rw (f.0, f.1, f.2) (record { step = e; blank = drop_zeros 12 degree; size = refl; within = omega arith; near = omega arith })
+-- the reading of so many m's, from bit `start` on
+abbrev pub ms_reading : List ℕ → ℕ → ℕ → Step (List ℕ)
+ms_reading bytes start degree = read_ms degree 1 [] (drop start (bits_of bytes))
 
 module _ {bytes : List ℕ} {start degree : ℕ} {ms : List ℕ} {at i : ℕ} (inv : MsLoop bytes start degree ms at i) (most : degree ≤ 12) where
-  pub ms_end : degree ≤ i → MsAnswer bytes start degree 0 at ms
+  pub ms_end : degree ≤ i → MsAnswer bytes start degree at ms
   unfolding read_ms
   ms_end h =
       let e : i ≡ degree = omega arith in
@@ -70,15 +66,15 @@ module _ {bytes : List ℕ} {start degree : ℕ} {ms : List ℕ} {at i : ℕ} (i
       record { step = inv.same ∙ rw (z, e) refl; blank = rw e at inv.blank; size = inv.size; within = inv.inside; near = omega arith }
 
   module _ (h : i < degree) {r : Bool} (er : r ≡ ltb (length (drop at (bits_of bytes))) (i + 1)) where
-    turn : read_ms degree 1 [] (drop start (bits_of bytes)) ≡ read_ms (suc (degree - (i + 1))) (i + 1) (take i ms) (drop at (bits_of bytes))
+    turn : ms_reading bytes start degree ≡ read_ms (suc (degree - (i + 1))) (i + 1) (take i ms) (drop at (bits_of bytes))
     turn = inv.same ∙ ap (λ (k : ℕ). read_ms k (i + 1) (take i ms) (drop at (bits_of bytes))) (omega arith)
 
-    pub ms_short : r ≡ true → MsStop bytes start degree 1
-    ms_short t = ms_refused bytes start degree 0 (turn ∙ short_m _ _ _ _ (sym er ∙ t))
+    pub ms_short : r ≡ true → ms_reading bytes start degree ≡ refuse 1
+    ms_short t = turn ∙ short_m _ _ _ _ (sym er ∙ t)
 
     module _ (tr : r ≡ false) {m : ℕ} (em : m ≡ field_at bytes at (i + 1)) where
-      pub ms_even : bit_and m 1 ≡ 0 → MsStop bytes start degree 8
-      ms_even z = ms_refused bytes start degree 7 (turn ∙ even_m _ _ _ _ m (sym er ∙ tr) (field_value bytes at (i + 1) em) z)
+      pub ms_even : bit_and m 1 ≡ 0 → ms_reading bytes start degree ≡ refuse 8
+      ms_even z = turn ∙ even_m _ _ _ _ m (sym er ∙ tr) (field_value bytes at (i + 1) em) z
 
       pub ms_next : (bit_and m 1 ≡ 0 → ⊥) → MsLoop bytes start degree (set ms i m) (at + (i + 1)) (i + 1)
       ms_next z =

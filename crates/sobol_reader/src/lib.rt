@@ -1,53 +1,44 @@
 // Reading the axes of a Sobol plan: the fields in their order, and the first refusal that holds.
 #![tactic(auto)]
 
-ghost use Rattle.std.specs.Prelude.{◌≡◌, List, ℕ, ◌+◌, ◌-◌, ◌*◌, ◌<◌, ◌≤◌, length, replicate};
+ghost use Rattle.std.specs.Prelude.{◌≡◌, List, [], ℕ, ◌+◌, ◌-◌, ◌*◌, ◌<◌, ◌≤◌, length, drop, MatchResult};
 ghost use Rattle.binary.specs.Polynomial.{Degree};
-ghost use Rattle.plan.specs.Reading.{polynomial_of, not_primitive, is_repeated};
+ghost use Rattle.bits.specs.Stream.{bits_of};
+ghost use Rattle.plan.specs.Reading.{refuse, polynomial_of, not_primitive, is_repeated, read_ms, read_axis, read_axes};
+ghost use Rattle.plan.specs.RefusalNumbers.{number_of};
 ghost use Rattle.plan.specs.Answer.{axes_of};
 ghost use Rattle.sobol_reader.specs.Axes.{MsAnswer, AxisAnswer, AxesAnswer};
 
-use plan::refusal;
+use plan::refusal::Refusal;
 
-// What reading the m's of an axis comes to.
+// The m's of an axis, 0 in the places that it does not use, and the bit after them.
 #[derive(Clone, Copy)]
 struct MsRead {
-    code: u64,
     at: usize,
     ms: [u64; 12],
 }
 
-fn no_ms(code: u64) -> MsRead
-    ensures { (result.code ≡ code) × (result.at ≡ 0) × (result.ms ≡ replicate 12 0) }
-{
-    MsRead {
-        code,
-        at: 0,
-        ms: [0; 12],
-    }
-}
-
 // m_1 to m_`degree`, from bit `start` on, m_i in i bits.
-fn read_ms(bytes: &[u8], start: usize, degree: usize) -> MsRead
+fn read_ms(bytes: &[u8], start: usize, degree: usize) -> Result<MsRead, Refusal>
     requires { (start ≤ 8 * length bytes.now) × (degree ≤ 12) × (start < 2048) }
-    ensures { MsAnswer bytes.now start degree result.code result.at result.ms }
+    ensures { MatchResult result
+        (λ m. MsAnswer bytes.now start degree m.at m.ms)
+        (λ e. read_ms degree 1 [] (drop start (bits_of bytes.now)) ≡ refuse (number_of e)) }
 {
     let mut ms = [0u64; 12];
     let mut at: usize = start;
-    let mut i: usize = 0;
-    while i < degree {
+    for i in 0..degree {
         if bits::is_short(bytes, at, i + 1) {
-            return no_ms(refusal::TRUNCATED);
+            return Err(Refusal::Truncated);
         }
         let m = bits::field(bytes, at, i + 1);
         if m & 1 == 0 {
-            return no_ms(refusal::EVEN_NUMBER);
+            return Err(Refusal::EvenNumber);
         }
         ms[i] = m;
         at += i + 1;
-        i += 1;
     }
-    MsRead { code: 0, at, ms }
+    Ok(MsRead { at, ms })
 }
 
 // Whether `p` is one of the first `n` polynomials.
@@ -55,10 +46,8 @@ fn is_repeated(p: u64, polynomials: &[u64], n: usize) -> bool
     requires { n ≤ length polynomials.now }
     ensures { (ms : List ℕ) → result ≡ is_repeated p (axes_of polynomials.now ms n) }
 {
-    let mut j = n;
-    while 0 < j {
-        j -= 1;
-        if p == polynomials[j] {
+    for q in &polynomials[..n] {
+        if p == *q {
             return true;
         }
     }
@@ -92,110 +81,77 @@ fn not_primitive(d: u64, p: u64) -> bool
     !primitive::is_primitive(d, p)
 }
 
-// What reading an axis comes to.
+// An axis, and the bit after it.
 #[derive(Clone, Copy)]
 struct AxisRead {
-    code: u64,
     at: usize,
     degree: usize,
     polynomial: u64,
     ms: [u64; 12],
 }
 
-fn no_axis(code: u64) -> AxisRead
-    ensures { (result.code ≡ code) × (result.at ≡ 0) × (result.degree ≡ 0) × (result.ms ≡ replicate 12 0) }
-{
-    AxisRead {
-        code,
-        at: 0,
-        degree: 0,
-        polynomial: 0,
-        ms: [0; 12],
-    }
-}
-
 // One Sobol axis, from bit `start` on, after `n` axes with these polynomials.
-fn read_axis(bytes: &[u8], start: usize, polynomials: &[u64], n: usize) -> AxisRead
+fn read_axis(bytes: &[u8], start: usize, polynomials: &[u64], n: usize) -> Result<AxisRead, Refusal>
     requires { (start ≤ 8 * length bytes.now) × (start < 2000) × (n ≤ length polynomials.now) }
-    ensures { AxisAnswer bytes.now start n polynomials.now result.code result.at result.degree result.polynomial result.ms }
+    ensures { MatchResult result
+        (λ x. AxisAnswer bytes.now start n polynomials.now x.at x.degree x.polynomial x.ms)
+        (λ e. (before : List ℕ) → read_axis (axes_of polynomials.now before n) (drop start (bits_of bytes.now)) ≡ refuse (number_of e)) }
 {
     if bits::is_short(bytes, start, 4) {
-        return no_axis(refusal::TRUNCATED);
+        return Err(Refusal::Truncated);
     }
     let d = bits::field(bytes, start, 4);
     if 12 < d {
-        return no_axis(refusal::BAD_DEGREE);
+        return Err(Refusal::BadDegree);
     }
     let at = start + 4;
     let w = coefficient_count(d);
     if bits::is_short(bytes, at, w) {
-        return no_axis(refusal::TRUNCATED);
+        return Err(Refusal::Truncated);
     }
     let p = polynomial(d, bits::field(bytes, at, w));
     if not_primitive(d, p) {
-        return no_axis(refusal::NOT_PRIMITIVE);
+        return Err(Refusal::NotPrimitive);
     }
     if is_repeated(p, polynomials, n) {
-        return no_axis(refusal::REPEATED_POLYNOMIAL);
+        return Err(Refusal::RepeatedPolynomial);
     }
-    let m = read_ms(bytes, at + w, d as usize);
-    if m.code != 0 {
-        return no_axis(m.code);
-    }
-    let ms = m.ms;
-    AxisRead {
-        code: 0,
-        at: m.at,
+    let MsRead { at, ms } = read_ms(bytes, at + w, d as usize)?;
+    Ok(AxisRead {
+        at,
         degree: d as usize,
         polynomial: p,
         ms,
-    }
+    })
 }
 
-// What reading the Sobol axes comes to.
+// The axes of a plan as its arrays hold them, and the bit after them.
 #[derive(Clone, Copy)]
 pub struct AxesRead {
-    pub code: u64,
     pub at: usize,
     pub polynomials: [u64; 6],
     pub ms: [u64; 72],
 }
 
-fn no_axes(code: u64) -> AxesRead
-    ensures { (result.code ≡ code) × (result.at ≡ 0) × (result.polynomials ≡ replicate 6 0) × (result.ms ≡ replicate 72 0) }
-{
-    AxesRead {
-        code,
-        at: 0,
-        polynomials: [0; 6],
-        ms: [0; 72],
-    }
-}
-
 // `axes` Sobol axes, from bit 5 on.
-pub fn read_axes(bytes: &[u8], axes: usize) -> AxesRead
+pub fn read_axes(bytes: &[u8], axes: usize) -> Result<AxesRead, Refusal>
     requires { (5 ≤ 8 * length bytes.now) × (axes ≤ 6) }
-    ensures { AxesAnswer bytes.now axes result.code result.at result.polynomials result.ms }
+    ensures { MatchResult result
+        (λ x. AxesAnswer bytes.now axes x.at x.polynomials x.ms)
+        (λ e. read_axes axes [] (drop 5 (bits_of bytes.now)) ≡ refuse (number_of e)) }
 {
     let mut polynomials = [0u64; 6];
     let mut ms = [0u64; 72];
     let mut at: usize = 5;
-    let mut i: usize = 0;
-    while i < axes {
-        let x = read_axis(bytes, at, &polynomials, i);
-        if x.code != 0 {
-            return no_axes(x.code);
-        }
+    for i in 0..axes {
+        let x = read_axis(bytes, at, &polynomials, i)?;
         polynomials[i] = x.polynomial;
-        let block = x.ms;
-        bits::store(&mut ms, 12 * i, &block);
+        bits::store(&mut ms, 12 * i, &x.ms);
         at = x.at;
-        i += 1;
     }
-    AxesRead {
-        code: 0,
+    Ok(AxesRead {
         at,
         polynomials,
         ms,
-    }
+    })
 }

@@ -20,11 +20,9 @@ fn first_points(v: &[u64], size: usize, t: &mut [u32])
     ensures { Begins (stepped v.now) size t.new }
 {
     let mut x = 0;
-    let mut r = 0;
-    while r < size {
+    for r in 0..size {
         t[r] = x as u32;
         x = sobol::step(v, r as u64, x);
-        r += 1;
     }
 }
 

@@ -5,11 +5,13 @@ ghost use Rattle.std.specs.Prelude.{◌≡◌, true, cond, ◌+◌, ◌*◌, ◌
 ghost use Rattle.numbers.specs.Listed.{padded};
 ghost use Rattle.plan.specs.Plan.{Valid, sobol};
 ghost use Rattle.plan.specs.Answer.{axes_of, plan_answered, Accepted};
-ghost use Rattle.points.specs.Arrays.{directions_in, directions_array, Arrays, Within, point_at};
+ghost use Rattle.points.specs.Arrays.{directions_in, directions_array, Within};
 ghost use Rattle.points.specs.Run.{Run, run_of, one_start, index_at};
+ghost use Rattle.points.specs.PlanAxes.{axes_point};
 ghost use Rattle.state.specs.State.{plan_in, run_in, next_point, made, blank, genuine};
 
 use plan::PlanRead;
+use points::PlanAxes;
 
 // A sampler: its plan, its run, and how many of the run's points are taken. `directions` has 32 words for each Sobol axis; `starts` is the index
 // of the run's first point on each axis; `numerators` is the next point, and 0 where none is left. Entries that are not used are 0.
@@ -51,14 +53,12 @@ fn direction_table(axes: usize, polynomials: &[u64], ms: &[u64]) -> [u64; 192]
     ensures { result ≡ padded 192 (directions_in (axes_of polynomials.now ms.now axes)) }
 {
     let mut table = [0u64; 192];
-    let mut i = 0;
-    while i < axes {
+    for i in 0..axes {
         let p = polynomials[i];
         let from = 12 * i;
         let to = from + 12;
         let v = sobol::direction_numbers(sobol::degree(p), p, &ms[from..to]);
         bits::store(&mut table, 32 * i, &v);
-        i += 1;
     }
     table
 }
@@ -77,43 +77,23 @@ pub fn plan_directions(a: PlanRead) -> [u64; 192]
 }
 
 // The point of step `taken`, and zeros where no point is left.
-pub fn next_point<'a>(
-    family: u64,
-    axes: usize,
-    bases: &'a [u64],
-    directions: &'a [u64],
-    starts: &'a [u64],
-    count: u64,
-    taken: u64,
-) -> [u64; 6]
-    requires { Arrays family axes bases.now directions.now × Within starts.now count }
-    ensures { result ≡ cond (ltb taken count)
-        (point_at family axes bases.now directions.now (λ i. index_at (run_of starts.now count) i taken)) (replicate 6 0) }
+pub fn next_point(p: PlanAxes, starts: &[u64], count: u64, taken: u64) -> [u64; 6]
+    requires { Within starts.now count }
+    ensures { result ≡ cond (ltb taken count) (axes_point p.entry (λ i. index_at (run_of starts.now count) i taken)) (replicate 6 0) }
 {
     if taken < count {
-        return points::point(family, axes, bases, directions, starts, taken);
+        return points::point(p, starts, taken);
     }
     [0; 6]
 }
 
 // The point after that of step `taken`, which is `x`, by a step, and zeros where none is left.
-pub fn point_after<'a>(
-    family: u64,
-    axes: usize,
-    bases: &'a [u64],
-    directions: &'a [u64],
-    starts: &'a [u64],
-    count: u64,
-    taken: u64,
-    x: [u64; 6],
-) -> [u64; 6]
-    requires { Arrays family axes bases.now directions.now × Within starts.now count × (taken < count)
-        × (x ≡ point_at family axes bases.now directions.now (λ i. index_at (run_of starts.now count) i taken)) }
-    ensures { result ≡ cond (ltb (taken + 1) count)
-        (point_at family axes bases.now directions.now (λ i. index_at (run_of starts.now count) i (taken + 1))) (replicate 6 0) }
+pub fn point_after(p: PlanAxes, starts: &[u64], count: u64, taken: u64, x: [u64; 6]) -> [u64; 6]
+    requires { Within starts.now count × (taken < count) × (x ≡ axes_point p (λ i. index_at (run_of starts.now count) i taken)) }
+    ensures { result ≡ cond (ltb (taken + 1) count) (axes_point p.entry (λ i. index_at (run_of starts.now count) i (taken + 1))) (replicate 6 0) }
 {
     if taken + 1 < count {
-        return points::advance(family, axes, bases, directions, starts, taken, x);
+        return points::advance(p, starts, taken, x);
     }
     [0; 6]
 }

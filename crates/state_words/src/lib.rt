@@ -28,24 +28,13 @@ pub fn words_of(s: Sampler) -> [u64; 220]
     words
 }
 
-// Six words from a place on.
-fn six(words: &[u64], at: usize) -> [u64; 6]
-    requires { at + 6 ≤ length words.now }
-    ensures { result ≡ part words.now at 6 }
+// `N` words from a place on.
+fn part<const N: usize>(words: &[u64], at: usize) -> [u64; N]
+    requires { at + N ≤ length words.now }
+    ensures { result ≡ part words.now at N }
 {
-    let end = at + 6;
-    let mut row = [0u64; 6];
-    bits::store(&mut row, 0, &words[at..end]);
-    row
-}
-
-// The direction numbers' words.
-fn table(words: &[u64]) -> [u64; 192]
-    requires { length words.now ≡ 220 }
-    ensures { result ≡ part words.now 14 192 }
-{
-    let mut row = [0u64; 192];
-    bits::store(&mut row, 0, &words[14..206]);
+    let mut row = [0u64; N];
+    row.copy_from_slice(&words[at..at + N]);
     row
 }
 
@@ -57,13 +46,13 @@ fn state_of(words: &[u64]) -> Sampler
     Sampler {
         family: words[0],
         axes: words[1] as usize,
-        bases: six(words, 2),
-        polynomials: six(words, 8),
-        directions: table(words),
-        starts: six(words, 206),
+        bases: part(words, 2),
+        polynomials: part(words, 8),
+        directions: part(words, 14),
+        starts: part(words, 206),
         count: words[212],
         taken: words[213],
-        numerators: six(words, 214),
+        numerators: part(words, 214),
     }
 }
 

@@ -4,11 +4,13 @@
 ghost use Rattle.std.specs.Prelude.{◌≡◌, ◌+◌, ◌*◌, ◌^◌, ◌≤◌, length};
 ghost use Rattle.numbers.specs.Count.{count};
 ghost use Rattle.discrepancy.specs.Bound.{inside};
-ghost use Rattle.points.specs.Arrays.{of_axis, Arrays, Within};
+ghost use Rattle.points.specs.Arrays.{of_axis, Within};
 ghost use Rattle.window.specs.Counting.{cut_axes, cut_at};
-ghost use Rattle.window.specs.Walking.{inside_from, Room};
+ghost use Rattle.window.specs.Walking.{axes_inside, Room};
 ghost use Rattle.strip_order.specs.Order.{Order, Bases};
 ghost use Rattle.strip_count.specs.Rows.{RowPut, Rowed, Filled, Reached};
+
+use points::PlanAxes;
 
 // Writes row `i`: a base, a start, and the ends 0 and u / q.
 fn put_row(rows: &mut [u64], i: usize, base: u64, start: u64, u: u64, q: u64)
@@ -27,11 +29,9 @@ fn put_rows(axes: usize, bases: &[u64], starts: &[u64], w: &[u64], order: &[u64]
     requires { Bases axes bases.now × (axes ≤ length starts.now) × Room w.now axes × (axes ≤ length order.now) × Order axes order.now × (length rows.old ≡ 30) }
     ensures { Rowed bases.now starts.now w.now order.now rows.new axes }
 {
-    let mut i = 0;
-    while i < axes {
+    for i in 0..axes {
         let a = order[i] as usize;
         put_row(rows, i, bases[a], starts[a], w[2 * a], w[2 * a + 1]);
-        i += 1;
     }
 }
 
@@ -40,12 +40,10 @@ fn put_images(family: u64, axes: usize, bases: &[u64], order: &[u64], l: &mut [u
     requires { Bases axes bases.now × (axes ≤ length order.now) × Order axes order.now × (length l.old ≡ 1536) }
     ensures { Filled family bases.now order.now l.new axes }
 {
-    let mut i = 0;
-    while i < axes {
+    for i in 0..axes {
         let first = 256 * i;
         let last = first + 256;
         images::images(family, bases[order[i] as usize], &mut l[first..last]);
-        i += 1;
     }
 }
 
@@ -72,22 +70,13 @@ fn count_strips(
 }
 
 // How many of the `k` points from the indexes `ns` on, one for each axis, are inside, by digit strips or walked, whichever is the faster.
-pub fn count_inside<'a>(
-    family: u64,
-    axes: usize,
-    bases: &'a [u64],
-    directions: &'a [u64],
-    ns: &[u64],
-    k: usize,
-    w: &[u64],
-) -> u64
-    requires { Arrays family axes bases.now directions.now × Within ns.now k × Room w.now axes }
-    ensures { result ≡ count (inside_from family bases.now directions.now w.now axes
-        (of_axis ns.now)) k }
+pub fn count_inside(p: PlanAxes, ns: &[u64], k: usize, w: &[u64]) -> u64
+    requires { Within ns.now k × Room w.now p.axes }
+    ensures { result ≡ count (axes_inside p.entry w.now (of_axis ns.now)) k }
 {
     let mut order = [0u64; 6];
-    if strip_order::is_walked(family, axes, bases, k as u64, w, &mut order) {
-        return inside_count::count_inside(family, axes, bases, directions, ns, k, w);
+    if strip_order::is_walked(p.family, p.axes, p.bases, k as u64, w, &mut order) {
+        return inside_count::count_inside(p, ns, k, w);
     }
-    count_strips(family, axes, bases, ns, 1, k as u64, w, &order)
+    count_strips(p.family, p.axes, p.bases, ns, 1, k as u64, w, &order)
 }

@@ -77,14 +77,12 @@ fn points(l: Lines, out: &mut [u8], buf: &[u64], n: u64, p: Pair) -> Lines
     let mut next = l;
     let mut i = p.x;
     let mut j = p.y;
-    let mut k = 0;
-    while k < n {
+    for _ in 0..n {
         let left = place(word(buf, i), p.dx);
         let up = place(word(buf, j), p.dy);
         next = point(next, out, left, 100000 - up, p.radius);
         i = std::num::wrapping_add_usize(i, p.width);
         j = std::num::wrapping_add_usize(j, p.width);
-        k += 1;
     }
     next
 }
@@ -119,15 +117,13 @@ fn blocks(l: Lines, out: &mut [u8], d: Drawing, p: Pair) -> Lines
     let mut next = l;
     let mut s = d.state;
     let mut buf = [0u64; 1536];
-    let mut left = s.count;
-    while left > 0 {
+    for _ in 0..s.count {
         let r = block(s, d.is_day, &mut buf);
         if r.code != 0 {
             return next;
         }
         next = points(next, out, &buf, r.points, p);
         s = r.state;
-        left -= 1;
     }
     next
 }

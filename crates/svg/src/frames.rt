@@ -50,14 +50,11 @@ fn letter(l: Lines, out: &mut [u8], b: u8) -> Lines {
 // A name, letter by letter, up to a byte 0.
 fn letters(l: Lines, out: &mut [u8], name: &[u8]) -> Lines {
     let mut next = l;
-    let mut i = 0;
-    while i < name.len() {
-        let b = name[i];
-        if b == 0 {
+    for b in name {
+        if *b == 0 {
             return next;
         }
-        next = letter(next, out, b);
-        i += 1;
+        next = letter(next, out, *b);
     }
     next
 }
@@ -106,10 +103,8 @@ pub fn all(l: Lines, out: &mut [u8], d: Drawing, cuts: &[u64], names: &[u8]) -> 
     requires { (d.windows ≤ 32) × (448 ≤ length cuts.now) × (1024 ≤ length names.now) }
 {
     let mut next = l;
-    let mut i = 0;
-    while i < d.windows {
+    for i in 0..d.windows {
         next = window(next, out, d, i, cuts, names);
-        i += 1;
     }
     next
 }

@@ -28,10 +28,8 @@ fn of_axis(s: Sampler, starts: bool, i: u64) -> u64 {
 // The starts of a run's axes, or the numbers of its plan's.
 fn axes(l: Lines, out: &mut [u8], s: Sampler, starts: bool) -> Lines {
     let mut next = l;
-    let mut i: usize = 0;
-    while i < s.axes {
-        next = put_between(next, out, b" ", of_axis(s, starts, i as u64), b"");
-        i += 1;
+    for i in 0..s.axes as u64 {
+        next = put_between(next, out, b" ", of_axis(s, starts, i), b"");
     }
     next
 }
@@ -58,14 +56,7 @@ fn day_set(l: Lines, out: &mut [u8], size: u64) -> Lines {
 // Whether all axes have one start.
 fn has_one_start(s: Sampler) -> bool {
     let starts = s.starts;
-    let mut i: usize = 1;
-    while i < s.axes {
-        if sixth(starts, i as u64) != starts[0] {
-            return false;
-        }
-        i += 1;
-    }
-    true
+    (1..s.axes as u64).all(|i| sixth(starts, i) == starts[0])
 }
 
 // The one start of all axes, or the start of each.
@@ -156,9 +147,7 @@ fn term(l: Lines, out: &mut [u8], high: u64, k: u64) -> Lines {
 // A polynomial of degree 12 at most, the highest power first.
 fn polynomial(l: Lines, out: &mut [u8], p: u64) -> Lines {
     let mut next = l;
-    let mut k: u64 = 13;
-    while k > 0 {
-        k -= 1;
+    for k in (0..13).rev() {
         next = term(next, out, p >> k, k);
     }
     next

@@ -71,10 +71,6 @@ table_more {g} {b} {size} {t} {new} a s = record {
   starts = subst (λ (x : ℕ). Begins g x new) (mul_comm b size) s;
 }
 
--- the table of one part is the table
-pub table_start : {g : ℕ → ℕ} {b size : ℕ} {t : List ℕ} → Table g b size t → Begins g (1 * size) t
-table_start {g} {b} {size} {t} a = subst (λ (x : ℕ). Begins g x t) (sym (one-mul size)) a.starts
-
 -- the image of a digit at the last place's weight is its point
 pub first_digit : {b : ℕ} {σ : ℕ → ℕ} → DigitMap b σ → 2 ≤ b → (w d : ℕ) → w * b ≡ denominator b → d < b → σ d * w ≡ numerator σ b d
 first_digit {b} {σ} a big w d e h =

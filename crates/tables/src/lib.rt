@@ -14,10 +14,8 @@ fn first_points(b: u64, l: &[u8], w: u64, t: &mut [u64])
     ensures { Table (numerator (image_in l.now) b) b b t.new × (length t.new ≡ length t.old) }
 {
     let end = b as usize;
-    let mut d = 0;
-    while d < end {
+    for d in 0..end {
         t[d] = (l[d] as u64) * w;
-        d += 1;
     }
 }
 
@@ -26,10 +24,8 @@ fn spread(a: u64, at: usize, size: usize, t: &mut [u64])
     requires { (a < 2 ^ 40) × (size ≤ at) × (at + size ≤ length t.old) × ((r : ℕ) → r < size → get_or t.old r 0 < 2 ^ 40) }
     ensures { Column (tile_of ◌+◌ a t.old 0 0) 0 size 1 at t.old t.new }
 {
-    let mut i = 0;
-    while i < size {
+    for i in 0..size {
         t[i + at] = a + t[i];
-        i += 1;
     }
 }
 
@@ -39,10 +35,8 @@ fn grow(b: u64, l: &[u8], w: u64, size: usize, t: &mut [u64])
     requires b_bound { (size * b ≤ 256) × (256 ≤ length t.old) × (w * b * size ≡ denominator b) × Table (numerator (image_in l.now) b) b size t.old }
     ensures { Table (numerator (image_in l.now) b) b (size * b) t.new × (length t.new ≡ length t.old) }
 {
-    let mut d = 1;
-    while d < b {
+    for d in 1..b {
         spread((l[d as usize] as u64) * w, (d as usize) * size, size, t);
-        d += 1;
     }
 }
 

@@ -11,12 +11,9 @@ pub fn put(out: &mut [u8], at: usize, text: &[u8]) -> usize
     requires { at + length text.now ≤ length out.old }
     ensures { TextPut out.old out.new at text.now result }
 {
-    let mut i = 0;
-    while i < text.len() {
-        out[at + i] = text[i];
-        i += 1;
-    }
-    at + i
+    let end = at + text.len();
+    out[at..end].copy_from_slice(text);
+    end
 }
 
 // How many decimal digits `n` is printed with: 0 has one, and a number below 2^40 at most thirteen.
@@ -34,13 +31,11 @@ pub fn put_digits(out: &mut [u8], at: usize, k: usize, n: u64) -> usize
     ensures { TextPut out.old out.new at (decimal_digits k n) result × (result ≡ at + k) }
 {
     let mut weight = numbers::power(10, (k - 1) as u64);
-    let mut i = 0;
-    while i < k {
+    for i in 0..k {
         out[at + i] = 48 + (n / weight % 10) as u8;
         weight = weight / 10;
-        i += 1;
     }
-    at + i
+    at + k
 }
 
 // A number in decimal.

@@ -48,10 +48,8 @@ fn say_day(s: Sampler, seconds: u64) {
         meters: 250,
         channels: 8,
     };
-    let mut index = 0;
-    while index < 8 {
+    for index in 0..8 {
         say_call(s, index, c);
-        index += 1;
     }
 }
 

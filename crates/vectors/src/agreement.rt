@@ -129,12 +129,10 @@ pub fn count_images(family: u64, b: u64, list: &[u64]) -> usize
     ensures { result ≤ length list.now }
 {
     let mut agreed = 0;
-    let mut d = 0;
-    while d < list.len() {
-        if halton_agrees(family, b, d as u64, list[d], b) {
+    for (d, image) in list.iter().enumerate() {
+        if halton_agrees(family, b, d as u64, *image, b) {
             agreed += 1;
         }
-        d += 1;
     }
     agreed
 }
@@ -144,13 +142,10 @@ pub fn count_agreeing(printed: Printed, axes: [u64; 3], table: &[[u64; 7]]) -> u
     ensures { result ≤ length table.now }
 {
     let mut agreed = 0;
-    let mut i = 0;
-    while i < table.len() {
-        let row = table[i];
-        if row_agrees(printed, axes, row) {
+    for row in table {
+        if row_agrees(printed, axes, *row) {
             agreed += 1;
         }
-        i += 1;
     }
     agreed
 }

@@ -39,16 +39,13 @@ pub fn count_agreeing() -> usize
     let made = sampler::make_day_set(plan.state, 10);
     let mut d = made.set;
     let mut agreed = 0;
-    let mut i = 0;
-    while i < 10 {
-        let row = HAMMERSLEY[i];
+    for row in HAMMERSLEY {
         let mut point = [0u64; 2];
         let r = sampler::day_step(d, &mut point);
         if row_agrees(d, r.code, point, row) {
             agreed += 1;
         }
         d = r.set;
-        i += 1;
     }
     agreed
 }

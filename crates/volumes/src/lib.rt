@@ -19,10 +19,8 @@ pub fn volume(w: &[u64], axes: usize) -> u64
     ensures { (result ≡ volume_of w.now axes) × (result ≤ 10 ^ 9) }
 {
     let mut v: u64 = 1000000000000000000;
-    let mut i = 0;
-    while i < axes {
+    for i in 0..axes {
         v = cut(v, w[2 * i], w[2 * i + 1]);
-        i += 1;
     }
     (v + 500000000) / 1000000000
 }

@@ -6,11 +6,11 @@ ghost use Rattle.text.specs.Decimal.{decimal};
 ghost use Rattle.text.specs.Put.{TextPut};
 ghost use Rattle.plan.specs.Reading.{accepted};
 ghost use Rattle.plan.specs.Answer.{plan_answered, Accepted};
-ghost use Rattle.points.specs.Arrays.{Arrays};
 ghost use Rattle.walk_text.specs.Text.{newline, text_of, walk_text};
 ghost use Rattle.walk_text.specs.Parts.{fraction, fractions_at, line_at, lines_at};
 
 use plan::PlanRead;
+use points::PlanAxes;
 
 // A line of a word and a number, at the front; gives the place after it, as every `put_` does.
 fn put_head(out: &mut [u8], word: &[u8], n: u64) -> usize
@@ -34,64 +34,40 @@ fn put_fraction(out: &mut [u8], at: usize, x: u64, d: u64) -> usize
 }
 
 // The fractions of index `n`, axis by axis.
-fn put_fractions<'a>(
-    out: &mut [u8],
-    start: usize,
-    family: u64,
-    axes: usize,
-    bases: &'a [u64],
-    directions: &'a [u64],
-    n: u64,
-) -> usize
-    requires { Arrays family axes bases.now directions.now × (n < 2 ^ 32) × (start + 168 ≤ length out.old) }
-    ensures { TextPut out.old out.new start (fractions_at family bases.now directions.now n axes) result × (result ≤ start + 168) }
+fn put_fractions(out: &mut [u8], start: usize, p: PlanAxes, n: u64) -> usize
+    requires { (n < 2 ^ 32) × (start + 168 ≤ length out.old) }
+    ensures { TextPut out.old out.new start (fractions_at p.entry.family p.entry.bases.now p.entry.directions.now n p.entry.axes) result
+        × (result ≤ start + 168) }
 {
     let mut at = start;
-    let mut i = 0;
-    while i < axes {
-        let x = points::numerator(family, bases, directions, n, i);
-        let d = points::denominator(family, bases, i);
+    for i in 0..p.axes {
+        let x = points::numerator(p.family, p.bases, p.directions, n, i);
+        let d = points::denominator(p.family, p.bases, i);
         at = put_fraction(out, at, x, d);
-        i += 1;
     }
     at
 }
 
 // The line of index `n`.
-fn put_line<'a>(
-    out: &mut [u8],
-    at: usize,
-    family: u64,
-    axes: usize,
-    bases: &'a [u64],
-    directions: &'a [u64],
-    n: u64,
-) -> usize
-    requires { Arrays family axes bases.now directions.now × (n < 2 ^ 32) × (at + 200 ≤ length out.old) }
-    ensures { TextPut out.old out.new at (line_at family axes bases.now directions.now n) result × (result ≤ at + 200) }
+fn put_line(out: &mut [u8], at: usize, p: PlanAxes, n: u64) -> usize
+    requires { (n < 2 ^ 32) × (at + 200 ≤ length out.old) }
+    ensures { TextPut out.old out.new at (line_at p.entry.family p.entry.axes p.entry.bases.now p.entry.directions.now n) result
+        × (result ≤ at + 200) }
 {
     let after_index = text::put_decimal(out, at, n);
-    let after_point = put_fractions(out, after_index, family, axes, bases, directions, n);
+    let after_point = put_fractions(out, after_index, p, n);
     text::put(out, after_point, &[b'\n'])
 }
 
 // The lines of the indexes 0 to 3.
-fn put_lines<'a>(
-    out: &mut [u8],
-    start: usize,
-    family: u64,
-    axes: usize,
-    bases: &'a [u64],
-    directions: &'a [u64],
-) -> usize
-    requires { Arrays family axes bases.now directions.now × (start + 800 ≤ length out.old) }
-    ensures { TextPut out.old out.new start (lines_at family axes bases.now directions.now 4) result × (result ≤ start + 800) }
+fn put_lines(out: &mut [u8], start: usize, p: PlanAxes) -> usize
+    requires { start + 800 ≤ length out.old }
+    ensures { TextPut out.old out.new start (lines_at p.entry.family p.entry.axes p.entry.bases.now p.entry.directions.now 4) result
+        × (result ≤ start + 800) }
 {
     let mut at = start;
-    let mut n: u64 = 0;
-    while n < 4 {
-        at = put_line(out, at, family, axes, bases, directions, n);
-        n += 1;
+    for n in 0..4 {
+        at = put_line(out, at, p, n);
     }
     at
 }
@@ -102,10 +78,14 @@ fn put_accepted(out: &mut [u8], a: PlanRead) -> usize
     ensures { TextPut out.old out.new 0 (text_of (accepted (plan_answered a))) result }
 {
     let s = state::make(a);
-    let bases = s.bases;
-    let directions = s.directions;
+    let axes = PlanAxes {
+        family: s.family,
+        axes: s.axes,
+        bases: &s.bases,
+        directions: &s.directions,
+    };
     let after_head = put_head(out, &[b'a', b'x', b'e', b's', b' '], s.axes as u64);
-    put_lines(out, after_head, s.family, s.axes, &bases, &directions)
+    put_lines(out, after_head, axes)
 }
 
 // How many bytes decide: 72, or all where there are fewer.

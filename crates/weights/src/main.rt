@@ -45,7 +45,7 @@ fn counted(s: Sampler, is_day: bool, w: &[u64]) -> Counted
 // Counts a window, and prints its row.
 fn count(j: Job, out: &mut [u8], w: &[u64], name: &[u8]) -> Job {
     let s = j.state;
-    let r = counted(s, j.is_day, w);
+    let r = counted(s, job::is_day(j), w);
     if r.code != 0 {
         let begun = job::fail(j, out);
         return job::end_number(begun, out, b"the window is refused: ", r.code);
@@ -67,10 +67,10 @@ fn count(j: Job, out: &mut [u8], w: &[u64], name: &[u8]) -> Job {
 fn window_line(j: Job, out: &mut [u8], text: &[u8], from: usize) -> Job
     requires { from ≤ length text.now }
 {
-    let r = window_lines::window_line(j, out, text, from);
-    if !r.is_good {
-        return r.job;
-    }
+    let r = match window_lines::window_line(j, out, text, from) {
+        Ok(r) => r,
+        Err(failed) => return failed,
+    };
     let start = r.start;
     let name_end = r.end;
     let cuts = r.cuts;
@@ -89,19 +89,19 @@ fn text_line(j: Job, out: &mut [u8], text: &[u8]) -> Job
     if key.len() == 0 {
         return j;
     }
-    if check::same(key, b"plan") {
+    if key == b"plan".as_slice() {
         return job::plan_line(j, out, text, end);
     }
-    if check::same(key, b"run") {
+    if key == b"run".as_slice() {
         return job::run_line(j, out, text, end);
     }
-    if check::same(key, b"day") {
+    if key == b"day".as_slice() {
         return job::day_line(j, out, text, end);
     }
-    if check::same(key, b"axes") {
+    if key == b"axes".as_slice() {
         return job::axes_line(j, out, text, end);
     }
-    if check::same(key, b"window") {
+    if key == b"window".as_slice() {
         return window_line(j, out, text, end);
     }
     job::error(j, out, b"expected plan, run, day, window, axes or #")
@@ -128,6 +128,7 @@ fn tail(j: Job, out: &mut [u8]) {
     lines::finish(l, out);
 }
 
+// A proved loop has to end, and nothing says that the input does: so the loop over the lines has a number of turns that no run uses up.
 fn main(rt: HostRuntime) {
     let stdin = rt.stdin();
     let mut chunk = io::buffer();
@@ -135,10 +136,11 @@ fn main(rt: HostRuntime) {
     let mut out = [0u8; 16384];
     let mut j = job::new(false);
     j.lines = head(j.lines, &mut out);
-    let mut turns = u64::MAX;
-    while turns > 0 {
+    for _ in 0..u64::MAX {
         j = line(stdin, j, &mut chunk, &mut kept, &mut out);
-        turns = job::turns_left(j, turns);
+        if j.lines.is_over {
+            break;
+        }
     }
     tail(j, &mut out);
 }

@@ -3,6 +3,7 @@ use Rattle.std.specs.Prelude.{Bool, true, false, List, ℕ, ◌+◌, ◌*◌, �
 use Rattle.numbers.specs.Count.{each}
 use Rattle.discrepancy.specs.Bound.{bound}
 use Rattle.points.specs.Arrays.{numerator_at, denominator_at}
+use Rattle.points.specs.declared.plan_axes.PlanAxes.{PlanAxes}
 use Rattle.window.specs.Counting.{in_cut, base_at, cut_at}
 
 -- axis i is inside at index n
@@ -12,6 +13,10 @@ axis_inside_by family bases vs w n i = in_cut (cut_at w i) (numerator_at family 
 -- the point t places after an index for each axis is inside on the first s axes
 unfoldable pub inside_from : ℕ → List ℕ → List ℕ → List ℕ → ℕ → (ℕ → ℕ) → ℕ → Bool
 inside_from family bases vs w s n t = each (λ i. axis_inside_by family bases vs w (n i + t) i) s
+
+-- the same by the axes that are lent
+abbrev pub axes_inside : PlanAxes → List ℕ → (ℕ → ℕ) → ℕ → Bool
+axes_inside p w n = inside_from p.family p.bases.now p.directions.now w p.axes n
 
 -- the bound: 0 for Sobol
 unfoldable pub bound_by : Bool → List ℕ → ℕ → ℕ → ℕ

@@ -3,9 +3,10 @@
 
 ghost use Rattle.std.specs.Prelude.{◌≡◌, ◌^◌, ◌≤◌, eqb};
 ghost use Rattle.discrepancy.specs.Bound.{factor};
-ghost use Rattle.points.specs.Arrays.{Arrays};
 ghost use Rattle.window.specs.Counting.{is_cut, is_window};
 ghost use Rattle.window.specs.Walking.{bound_by};
+
+use points::PlanAxes;
 
 // Whether u / q is a cut that the calls take: q from 1 to 2^24, u from 0 to q.
 fn is_cut(u: u64, q: u64) -> bool
@@ -28,12 +29,10 @@ pub fn is_window(w: &[u64], axes: usize) -> bool
     if w.len() != 2 * axes {
         return false;
     }
-    let mut i = 0;
-    while i < axes {
+    for i in 0..axes {
         if !is_cut(w[2 * i], w[2 * i + 1]) {
             return false;
         }
-        i += 1;
     }
     true
 }
@@ -47,18 +46,16 @@ fn bound_factor(b: u64, n: u64) -> u64
 }
 
 // The bound of a run of `n` points: the product of the axes' factors, and 0 for Sobol, which claims none.
-pub fn bound<'a>(family: u64, axes: usize, bases: &'a [u64], directions: &'a [u64], n: u64) -> u64
-    requires { Arrays family axes bases.now directions.now × (n ≤ 2 ^ 32) }
-    ensures { result ≡ bound_by (eqb family 2) bases.now n axes }
+pub fn bound(p: PlanAxes, n: u64) -> u64
+    requires { n ≤ 2 ^ 32 }
+    ensures { result ≡ bound_by (eqb p.entry.family 2) p.entry.bases.now n p.entry.axes }
 {
-    if family == 2 {
+    if p.family == 2 {
         return 0;
     }
-    let mut p = 1;
-    let mut i = 0;
-    while i < axes {
-        p = p * bound_factor(bases[i], n);
-        i += 1;
+    let mut product = 1;
+    for i in 0..p.axes {
+        product = product * bound_factor(p.bases[i], n);
     }
-    p
+    product
 }

@@ -3,14 +3,16 @@
 
 ghost use Rattle.std.specs.Prelude.{◌≡◌};
 ghost use Rattle.numbers.specs.Count as counting;
-ghost use Rattle.points.specs.Arrays.{of_axis, Arrays, Within};
-ghost use Rattle.window.specs.Walking.{inside_from, Room};
+ghost use Rattle.points.specs.Arrays.{of_axis, Within};
+ghost use Rattle.window.specs.Walking.{axes_inside, Room};
 ghost use Rattle.window_count.specs.Call.{counted, count_spec};
 
 use plan::refusal;
+use points::PlanAxes;
 use state::Sampler;
 
 // A refusal's number or 0, how many of the run's points are inside, and the bound of demand 3.
+// It has a code and is no `Result`, since `specs/Call.antt` and the theorems above it are equations about the code.
 #[derive(Clone, Copy)]
 pub struct Counted {
     pub code: u64,
@@ -29,41 +31,23 @@ pub fn refused(code: u64) -> Counted
     }
 }
 
-// How many of the `k` points from the indexes `ns` on, one for each axis, are inside the window `w`: by strips, or walked.
-fn inside_by<'a>(
-    by_strips: bool,
-    family: u64,
-    axes: usize,
-    bases: &'a [u64],
-    directions: &'a [u64],
-    ns: &'a [u64],
-    k: usize,
-    w: &[u64],
-) -> u64
-    requires { Arrays family axes bases.now directions.now × Within ns.now k × Room w.now axes }
-    ensures { result ≡ counting.count (inside_from family bases.now directions.now w.now axes (of_axis ns.now)) k }
+// How many of the `k` points from the indexes `ns` on, one for each axis, are inside the window `w`: by strips, or walked. A
+// closure for either would need its `pre` and `post` at every run and window in the clauses of the count, which two calls here do not.
+fn inside_by(by_strips: bool, p: PlanAxes, ns: &[u64], k: usize, w: &[u64]) -> u64
+    requires { Within ns.now k × Room w.now p.axes }
+    ensures { result ≡ counting.count (axes_inside p.entry w.now (of_axis ns.now)) k }
 {
     if by_strips {
-        return strip_count::count_inside(family, axes, bases, directions, ns, k, w);
+        return strip_count::count_inside(p, ns, k, w);
     }
-    inside_count::count_inside(family, axes, bases, directions, ns, k, w)
+    inside_count::count_inside(p, ns, k, w)
 }
 
 // The count of either call.
 fn counted_by(s: Sampler, w: &[u64], by_strips: bool) -> Counted
     ensures { result ≡ count_spec s w.now }
 {
-    if !genuine::is_genuine(
-        s.family,
-        s.axes,
-        &s.bases,
-        &s.polynomials,
-        &s.directions,
-        &s.starts,
-        s.count,
-        s.taken,
-        &s.numerators,
-    ) {
+    if !genuine::is_genuine(&s) {
         return refused(refusal::INVALID_STATE);
     }
     let axes = s.axes;
@@ -71,17 +55,14 @@ fn counted_by(s: Sampler, w: &[u64], by_strips: bool) -> Counted
         return refused(refusal::BAD_WINDOW);
     }
     let ns = points::indexes(&s.starts, 0);
-    let inside = inside_by(
-        by_strips,
-        s.family,
-        axes,
-        &s.bases,
-        &s.directions,
-        &ns,
-        s.count as usize,
-        w,
-    );
-    let bound = window::bound(s.family, axes, &s.bases, &s.directions, s.count);
+    let p = PlanAxes {
+        family: s.family,
+        axes: s.axes,
+        bases: &s.bases,
+        directions: &s.directions,
+    };
+    let inside = inside_by(by_strips, p, &ns, s.count as usize, w);
+    let bound = window::bound(p, s.count);
     Counted {
         code: 0,
         inside,

@@ -4,18 +4,15 @@
 
 mod cuts;
 
-ghost use Rattle.std.specs.Prelude.{◌+◌, ◌≤◌, length};
+ghost use Rattle.std.specs.Prelude.{◌+◌, ◌≤◌, IfOk, length};
 ghost use Rattle.window_lines.specs.Within.{Within};
 
 use cuts::read_cuts;
 use job::Job;
 
-// A window: whether its line is good; the places of its name in the text, which are the same where it has none; how many axes it cuts, and u and q
-// of each in turn.
+// A window: the places of its name in the text, which are the same where it has none; how many axes it cuts, and u and q of each in turn.
 #[derive(Clone, Copy)]
 pub struct WindowRead {
-    pub job: Job,
-    pub is_good: bool,
     pub start: usize,
     pub end: usize,
     pub axes: usize,
@@ -30,20 +27,6 @@ struct Name {
     after: usize,
 }
 
-// A line in error, which was said.
-fn not_good(j: Job) -> WindowRead
-    ensures { Within result 0 }
-{
-    WindowRead {
-        job: j,
-        is_good: false,
-        start: 0,
-        end: 0,
-        axes: 0,
-        cuts: [0; 14],
-    }
-}
-
 // The name from `from` on: the word before a word `=`, and not itself `=`.
 fn find_name(text: &[u8], from: usize) -> Name
     requires { from ≤ length text.now }
@@ -55,8 +38,8 @@ fn find_name(text: &[u8], from: usize) -> Name
     let v = words::find(text, end);
     let a = v.start;
     let e = v.end;
-    if check::same(&text[a..e], b"=") {
-        if !check::same(&text[start..end], b"=") {
+    if &text[a..e] == b"=".as_slice() {
+        if &text[start..end] != b"=".as_slice() {
             return Name {
                 start,
                 end,
@@ -83,7 +66,7 @@ fn has_sign(text: &[u8], from: usize) -> bool
         if start == end {
             return false;
         }
-        if check::same(&text[start..end], b"=") {
+        if &text[start..end] == b"=".as_slice() {
             return true;
         }
         at = end;
@@ -93,18 +76,7 @@ fn has_sign(text: &[u8], from: usize) -> bool
 
 // Whether all bytes of a word are printable ASCII.
 fn is_printable(word: &[u8]) -> bool {
-    let mut i = 0;
-    while i < word.len() {
-        let b = word[i];
-        if b < 33 {
-            return false;
-        }
-        if 126 < b {
-            return false;
-        }
-        i += 1;
-    }
-    true
+    word.iter().all(|b| b.is_ascii_graphic())
 }
 
 // Not a name.
@@ -118,7 +90,7 @@ fn bad_name(j: Job, out: &mut [u8]) -> Job {
 
 // Says which cuts a window is to have, of a plan of so many axes.
 fn say_cuts(j: Job, out: &mut [u8], axes: u64) -> Job {
-    if j.is_day {
+    if job::is_day(j) {
         return job::say_between(
             j,
             out,
@@ -145,60 +117,58 @@ fn not_each(j: Job, out: &mut [u8], axes: usize, got: usize) -> Job {
 
 // How many cuts a window has, of a plan of so many axes: one for each, and one for a day set's leading axis.
 fn cut_count(j: Job, axes: usize) -> usize {
-    if j.is_day {
+    if job::is_day(j) {
         return std::num::wrapping_add_usize(axes, 1);
     }
     axes
 }
 
-// The window of a named or nameless line, with as many cuts as there are axes.
-fn read_window(j: Job, out: &mut [u8], text: &[u8], n: Name) -> WindowRead
+// The window of a named or nameless line, with as many cuts as there are axes; or the job with the error that it has none.
+fn read_window(j: Job, out: &mut [u8], text: &[u8], n: Name) -> Result<WindowRead, Job>
     requires { (n.start ≤ n.end) × (n.end ≤ n.start + 32) × (n.end ≤ length text.now) × (n.after ≤ length text.now) }
-    ensures { Within result (length text.now) }
+    ensures { IfOk result (λ r. Within r (length text.now)) }
 {
     let s = j.state;
     let axes = s.axes;
     let got = words::count(text, n.after);
     if got != cut_count(j, axes) {
-        return not_good(not_each(j, out, axes, got));
+        return Err(not_each(j, out, axes, got));
     }
-    let c = read_cuts(text, n.after);
-    if c.wrong != 0 {
-        return not_good(cuts::bad_cut(j, out, c.axes, c.wrong));
-    }
+    let c = match read_cuts(text, n.after) {
+        Ok(c) => c,
+        Err(bad) => return Err(cuts::bad_cut(j, out, bad)),
+    };
     let all = c.cuts;
-    WindowRead {
-        job: j,
-        is_good: true,
+    Ok(WindowRead {
         start: n.start,
         end: n.end,
         axes: c.axes,
         cuts: all,
-    }
+    })
 }
 
-// A line of a window, from after its first word on.
-pub fn window_line(j: Job, out: &mut [u8], text: &[u8], from: usize) -> WindowRead
+// A line of a window, from after its first word on; or the job with the error that it is none.
+pub fn window_line(j: Job, out: &mut [u8], text: &[u8], from: usize) -> Result<WindowRead, Job>
     requires { from ≤ length text.now }
-    ensures { Within result (length text.now) }
+    ensures { IfOk result (λ r. Within r (length text.now)) }
 {
     if !j.has_plan {
-        return not_good(job::error(j, out, b"expected a plan before the window"));
+        return Err(job::error(j, out, b"expected a plan before the window"));
     }
-    if !j.has_run {
-        return not_good(job::error(j, out, b"expected a run or a day set before the window"));
+    if j.run.is_none() {
+        return Err(job::error(j, out, b"expected a run or a day set before the window"));
     }
     let n = find_name(text, from);
     if has_sign(text, n.after) {
-        return not_good(job::error(j, out, b"expected one word before ="));
+        return Err(job::error(j, out, b"expected one word before ="));
     }
     let start = n.start;
     let end = n.end;
     if 32 < end - start {
-        return not_good(bad_name(j, out));
+        return Err(bad_name(j, out));
     }
     if !is_printable(&text[start..end]) {
-        return not_good(bad_name(j, out));
+        return Err(bad_name(j, out));
     }
     read_window(j, out, text, n)
 }

@@ -9,7 +9,8 @@ use borrow.Author.Tests.{lt-ltb, le-ltb}
 use lib.ListN.{length, drop, get_or}
 use lib.Seq.{drop-length}
 use Rattle.numbers.proofs.Cases.{lt_or_ge}
-use Rattle.words.specs.declared.Number.TheVariants.{Value, NoNumber, TooLarge}
+use Rattle.std.proofs.Common.{Ok, Err}
+use Rattle.words.specs.declared.NumberError.TheVariants.{NotDecimal, TooLarge}
 use Rattle.words.specs.Decimal.{all_digits, value_from, fitting, number_of}
 use Rattle.words.proofs.WordLaws.{here}
 
@@ -64,12 +65,12 @@ value_low n (b ∷ bs) = omega (arith, value_low (n * 10 + (b - 48)) bs)
 
 -- ---- the answer
 
-pub number_none : (l : List ℕ) → length l ≡ 0 → number_of l ≡ NoNumber
+pub number_none : (l : List ℕ) → length l ≡ 0 → number_of l ≡ Err NotDecimal
 unfolding number_of
 number_none [] e = refl
 number_none (b ∷ bs) e = absurd (omega arith)
 
-pub number_other : (l : List ℕ) → all_digits l ≡ false → number_of l ≡ NoNumber
+pub number_other : (l : List ℕ) → all_digits l ≡ false → number_of l ≡ Err NotDecimal
 unfolding number_of
 number_other [] e = refl
 number_other (b ∷ bs) e = rw e refl
@@ -83,10 +84,10 @@ module _ (l : List ℕ) (some : 0 < length l) (e : all_digits l ≡ true) where
       go [] h d = absurd (omega arith)
       go (b ∷ bs) h d = rw d refl
 
-  pub number_value : (n : ℕ) → n < 2 ^ 64 → value_from 0 l ≡ n → Value n ≡ number_of l
+  pub number_value : (n : ℕ) → n < 2 ^ 64 → value_from 0 l ≡ n → Ok n ≡ number_of l
   unfolding fitting
   number_value n h v = sym (is ∙ rw (v, lt-ltb n (2 ^ 64) h) refl)
 
-  pub number_large : 2 ^ 64 ≤ value_from 0 l → TooLarge ≡ number_of l
+  pub number_large : 2 ^ 64 ≤ value_from 0 l → Err TooLarge ≡ number_of l
   unfolding fitting
   number_large h = sym (is ∙ rw (le-ltb (value_from 0 l) (2 ^ 64) h) refl)

@@ -13,11 +13,10 @@ pub struct Word {
     pub end: usize,
 }
 
-// What a word spells in decimal.
-#[derive(Clone, Copy)]
-pub enum Number {
-    Value(u64),
-    NoNumber,
+// Why a word spells no number of 64 bits: it is not one decimal digit or more, or its value is above 2^64 - 1.
+#[derive(Clone, Copy, PartialEq, Eq, Debug)]
+pub enum NumberError {
+    NotDecimal,
     TooLarge,
 }
 
@@ -38,14 +37,12 @@ fn span(line: &[u8], from: usize, blank: bool) -> usize
     requires { from ≤ length line.now }
     ensures { (result ≡ span_end line.now from blank) × (result ≤ length line.now) }
 {
-    let mut i = from;
-    while i < line.len() {
+    for i in from..line.len() {
         if is_blank(line[i]) != blank {
             return i;
         }
-        i += 1;
     }
-    i
+    line.len()
 }
 
 // The first word at or after `from`.
@@ -65,14 +62,12 @@ pub fn count(line: &[u8], from: usize) -> usize
 {
     let mut n: usize = 0;
     let mut outside = true;
-    let mut i = from;
-    while i < line.len() {
-        let blank = is_blank(line[i]);
+    for b in &line[from..] {
+        let blank = is_blank(*b);
         if outside && !blank {
             n += 1;
         }
         outside = blank;
-        i += 1;
     }
     n
 }
@@ -83,41 +78,36 @@ pub fn count(line: &[u8], from: usize) -> usize
 fn all_digits(word: &[u8]) -> bool
     ensures { result ≡ all_digits word.now }
 {
-    let mut i = 0;
-    while i < word.len() {
-        let b = word[i];
-        if b < 48 {
+    for b in word {
+        if *b < 48 {
             return false;
         }
-        if 57 < b {
+        if 57 < *b {
             return false;
         }
-        i += 1;
     }
     true
 }
 
 // The number that a word spells.
-pub fn decimal(word: &[u8]) -> Number
+pub fn decimal(word: &[u8]) -> Result<u64, NumberError>
     ensures { result ≡ number_of word.now }
 {
     if word.len() == 0 {
-        return Number::NoNumber;
+        return Err(NumberError::NotDecimal);
     }
     if !all_digits(word) {
-        return Number::NoNumber;
+        return Err(NumberError::NotDecimal);
     }
     let mut value: u64 = 0;
-    let mut i = 0;
-    while i < word.len() {
-        let digit = (word[i] - 48) as u64;
+    for b in word {
+        let digit = (*b - 48) as u64;
         if (18446744073709551615 - digit) / 10 < value {
-            return Number::TooLarge;
+            return Err(NumberError::TooLarge);
         }
         value = value * 10 + digit;
-        i += 1;
     }
-    Number::Value(value)
+    Ok(value)
 }
 
 // ---- hexadecimal
@@ -138,14 +128,12 @@ fn hex_digit(b: u8) -> u8
 pub fn not_hex(word: &[u8]) -> usize
     ensures { result ≡ leading is_hex word.now }
 {
-    let mut i = 0;
-    while i < word.len() {
-        if 15 < hex_digit(word[i]) {
+    for (i, b) in word.iter().enumerate() {
+        if 15 < hex_digit(*b) {
             return i;
         }
-        i += 1;
     }
-    i
+    word.len()
 }
 
 // Puts the bytes that pairs of digits spell to the front of `out`, and gives their number. A byte that is no digit counts as 0.
@@ -154,12 +142,10 @@ pub fn hex(word: &[u8], out: &mut [u8]) -> usize
     ensures { Hexed word.now out.old result out.new }
 {
     let n = word.len() / 2;
-    let mut i = 0;
-    while i < n {
+    for i in 0..n {
         let high = hex_digit(word[2 * i]) % 16;
         let low = hex_digit(word[2 * i + 1]) % 16;
         out[i] = high * 16 + low;
-        i += 1;
     }
     n
 }

@@ -1,7 +1,5 @@
 -- The degree, the coefficients and the m's are put one after another; there is one coefficient less than the degree. Assumes nothing.
-use borrow.Author.Rules.{rules}
 use mathlib.Core.Path.{◌≡◌}
-use mathlib.Core.Logic.{⊎_elim}
 use Prim.Native.Nat.{◌-◌}
 use native.Mathlib.Omega.{arith}
 use Rattle.axes_writer.proofs.PartLaws.{put_field, whole_axis}

@@ -9,7 +9,7 @@ use Rattle.fitting.proofs.WordLaws.{first_none, first_more}
 use Rattle.axis_test.proofs.are_given.Goals as goal
 
 pub loop-j-init : goal.loop-j-init
-loop-j-init c = (omega arith, first_none _)
+loop-j-init c = first_none _
 
 pub returns-then-not-is_given : goal.returns-then-not-is_given
 returns-then-not-is_given c =
@@ -17,10 +17,10 @@ returns-then-not-is_given c =
     failed c.is_given.ensures c.if-not-is_given.true (λ f. f.each j (omega arith))
 
 pub loop-j-preserved : goal.loop-j-preserved
-loop-j-preserved c = (omega arith, first_more c.loop-j.invariant.1 (c.is_given.ensures.0 c.if-not-is_given.false))
+loop-j-preserved c = first_more c.loop-j.invariant (c.is_given.ensures.0 c.if-not-is_given.false)
 
 pub returns : goal.returns
 returns c =
     let l = c.loop-j in
     let e : l.j ≡ c.args.d = omega arith in
-    yes (rw e at l.invariant.1)
+    yes (rw e at l.invariant)

@@ -9,7 +9,4 @@ use Rattle.fitting.proofs.WordLaws.{first_none, first_more}
 use Rattle.axis_test.proofs.are_given.Given as goal
 
 abbrev pub invariant-loop-j : goal.invariant-loop-j
-invariant-loop-j l = (l.j ≤ l.d) × FitFirst l.v l.j
-
-abbrev pub decreases-loop-j : goal.decreases-loop-j
-decreases-loop-j l = l.d - l.j
+invariant-loop-j l = FitFirst l.v l.j

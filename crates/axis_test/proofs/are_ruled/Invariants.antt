@@ -8,7 +8,4 @@ use Rattle.fitting.proofs.WordLaws.{rest_none, rest_more}
 use Rattle.axis_test.proofs.are_ruled.Given as goal
 
 abbrev pub invariant-loop-i : goal.invariant-loop-i
-invariant-loop-i l = (l.d ≤ l.i) × (l.i ≤ 32) × FitRest l.d l.p l.v l.i
-
-abbrev pub decreases-loop-i : goal.decreases-loop-i
-decreases-loop-i l = 32 - l.i
+invariant-loop-i l = FitRest l.d l.p l.v l.i

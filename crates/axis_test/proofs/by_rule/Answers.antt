@@ -12,7 +12,7 @@ returns-then-d-eq0 c = let a = c.args in rule_shift a.d a.p a.v.now a.i (omega a
 
 pub loop-k-init : goal.loop-k-init
 unfolding v_terms
-loop-k-init c = (omega arith, refl)
+loop-k-init c = refl
 
 pub overflow_mul-x : goal.overflow_mul-x
 overflow_mul-x c =
@@ -25,11 +25,11 @@ pub loop-k-preserved : goal.loop-k-preserved
 loop-k-preserved c =
     let a = c.args in
     let l = c.loop-k in
-    (omega arith, terms_next a.d a.p a.v.now a.i l.k l.x l.invariant.1)
+    terms_next a.d a.p a.v.now a.i l.k l.x l.invariant
 
 pub returns : goal.returns
 returns c =
     let a = c.args in
     let l = c.loop-k in
     let e : l.k ≡ a.d = omega arith in
-    l.invariant.1 ∙ ap (v_terms a.d a.p a.v.now a.i) e ∙ rule_terms a.d a.p a.v.now a.i (λ z. omega arith)
+    l.invariant ∙ ap (v_terms a.d a.p a.v.now a.i) e ∙ rule_terms a.d a.p a.v.now a.i (λ z. omega arith)

@@ -8,7 +8,4 @@ use Rattle.fitting.proofs.WordLaws.{digit_times_lt, terms_next, rule_terms, rule
 use Rattle.axis_test.proofs.by_rule.Given as goal
 
 abbrev pub invariant-loop-k : goal.invariant-loop-k
-invariant-loop-k l = (l.k ≤ l.d) × (l.x ≡ v_terms l.d l.p l.v l.i l.k)
-
-abbrev pub decreases-loop-k : goal.decreases-loop-k
-decreases-loop-k l = l.d - l.k
+invariant-loop-k l = l.x ≡ v_terms l.d l.p l.v l.i l.k

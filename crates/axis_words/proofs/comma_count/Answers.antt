@@ -2,17 +2,17 @@
 use Rattle.std.proofs.Common.{true, false, get_or, arith, eq-eqb, ne_eqb}
 use Rattle.axis_words.proofs.PartLaws.{comma_more, comma_end}
 use Rattle.axis_words.proofs.comma_count.Goals as goal
-use Rattle.axis_words.proofs.comma_count.Goals.{then-text-i-eq44, else-text-i-eq44}
+use Rattle.axis_words.proofs.comma_count.Goals.{then-b-eq44, else-b-eq44}
 
-pub loop-i-preserved : goal.loop-i-preserved
-loop-i-preserved c =
+pub loop-b-preserved : goal.loop-b-preserved
+loop-b-preserved c =
     let text = c.args.text.now in
-    let more = comma_more text c.loop-i.i (omega arith) in
-    elim c.if-text-i-eq44.branch [
-      | then-text-i-eq44 w ↦ (omega arith, omega arith, omega (arith, c.loop-i.invariant.2, more true (eq-eqb (get_or text c.loop-i.i 0) 44 (omega arith))))
-      | else-text-i-eq44 w ↦ (omega arith, omega arith, omega (arith, c.loop-i.invariant.2, more false (ne_eqb (get_or text c.loop-i.i 0) 44 (λ e. omega (arith, e)))))
+    let more = comma_more text c.loop-b.b-index (omega arith) in
+    elim c.if-b-eq44.branch [
+      | then-b-eq44 w ↦ (omega arith, omega (arith, c.loop-b.invariant.1, more true (eq-eqb (get_or text c.loop-b.b-index 0) 44 (omega arith))))
+      | else-b-eq44 w ↦ (omega arith, omega (arith, c.loop-b.invariant.1, more false (ne_eqb (get_or text c.loop-b.b-index 0) 44 (λ e. omega (arith, e)))))
     ]
 
 pub returns : goal.returns
 returns c =
-    omega (arith, c.loop-i.invariant.2, comma_end c.args.text.now c.loop-i.i (omega arith))
+    omega (arith, c.loop-b.invariant.1, comma_end c.args.text.now c.loop-b.b-index (omega arith))

@@ -1,33 +1,25 @@
 -- The parts so far are numbers, in their places. Assumes nothing.
 use Rattle.std.proofs.Common.{arith}
-use borrow.Author.Tests.{not-true, not-false}
 use Rattle.axis_words.proofs.PartLaws.{so_far_none, so_far_bad, so_far_next, so_far_all}
 use Rattle.axis_words.proofs.parse_ms.Goals as goal
 
 pub loop-k-init : goal.loop-k-init
-loop-k-init c = (omega arith, so_far_none _ _ _)
+loop-k-init c = so_far_none _ _ _
 
-pub shape_of-ms-then-not-m : goal.shape_of-ms-then-not-m
-shape_of-ms-then-not-m c = c.loop-k.invariant.1.kept.size
-
-pub returns-then-not-m : goal.returns-then-not-m
-returns-then-not-m c =
-    let l = c.loop-k in
-    so_far_bad l.invariant.1 c.part_end-end.result c.number-m.result.value c.part_end-end.ensures.0 c.number-m.ensures _ (omega arith) (not-true _ c.if-not-m.true)
+pub returns-in_default : goal.returns-in_default
+returns-in_default c = so_far_bad c.loop-k.invariant c.part_end-end.result c.part_end-end.ensures.0 _ (omega arith) c.in_default.ensures
 
 pub bounds-ms-i : goal.bounds-ms-i
-bounds-ms-i c = omega (arith, c.loop-k.invariant.1.kept.size)
+bounds-ms-i c = omega (arith, c.loop-k.invariant.kept.size)
 
 pub loop-k-preserved : goal.loop-k-preserved
 loop-k-preserved c =
-    let l = c.loop-k in (
-      omega arith,
-      so_far_next l.invariant.1 c.part_end-end.result c.number-m.result.value c.part_end-end.ensures.0 c.number-m.ensures c.next_place-at.result
-          (omega (arith, l.invariant.1.kept.size)) c.next_place-at.ensures.0 c.next_place-at.ensures.1 (not-false _ c.if-not-m.false),
-    )
+    let l = c.loop-k in
+    so_far_next l.invariant c.part_end-end.result c.part_end-end.ensures.0 _ c.next_place-at.result
+    (omega (arith, l.invariant.kept.size)) c.next_place-at.ensures.0 c.next_place-at.ensures.1 c.in-Some.ensures
 
 pub shape_of-ms : goal.shape_of-ms
-shape_of-ms c = c.loop-k.invariant.1.kept.size
+shape_of-ms c = c.loop-k.invariant.kept.size
 
 pub returns : goal.returns
-returns c = let l = c.loop-k in so_far_all l.invariant.1 _ (omega arith)
+returns c = let l = c.loop-k in so_far_all l.invariant _ (omega arith)

@@ -6,19 +6,19 @@ use Rattle.axis_words.proofs.PartLaws.{is_stop, is_other}
 use Rattle.axis_words.proofs.part_end.Goals as goal
 
 pub loop-i-init : goal.loop-i-init
-loop-i-init c = (omega arith, omega arith)
+loop-i-init c = omega arith
 
 pub returns-then-text-i : goal.returns-then-text-i
 returns-then-text-i c =
     let a = c.args in
-    (omega (arith, c.loop-i.invariant.1, leading_stop a.text.now c.loop-i.i (omega arith) (is_not a.stop) (is_stop a.stop _ (omega arith))), omega arith)
+    (omega (arith, c.loop-i.invariant, leading_stop a.text.now c.loop-i.i (omega arith) (is_not a.stop) (is_stop a.stop _ (omega arith))), omega arith)
 
 pub loop-i-preserved : goal.loop-i-preserved
 loop-i-preserved c =
     let a = c.args in
-    (omega arith, omega (arith, c.loop-i.invariant.1, leading_more a.text.now c.loop-i.i (omega arith) (is_not a.stop) (is_other a.stop _ (λ e. omega (arith, e)))))
+    omega (arith, c.loop-i.invariant, leading_more a.text.now c.loop-i.i (omega arith) (is_not a.stop) (is_other a.stop _ (λ e. omega (arith, e))))
 
 pub returns : goal.returns
 returns c =
     let a = c.args in
-    (omega (arith, c.loop-i.invariant.1, leading_end a.text.now c.loop-i.i (omega arith) (is_not a.stop)), omega arith)
+    (omega (arith, c.loop-i.invariant, leading_end a.text.now c.loop-i.i (omega arith) (is_not a.stop)), omega arith)

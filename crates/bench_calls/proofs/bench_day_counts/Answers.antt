@@ -1,23 +1,20 @@
--- S after a round is what the call answers. Assumes nothing.
-use borrow.Author.Rules.{rules}
+-- S after a round is what the call answers.
 use mathlib.Core.Path.{◌≡◌, refl, ap}
-use Prim.Native.Nat.{◌-◌, ◌≤◌}
 use native.Mathlib.Numerals.{add-one}
 use native.Mathlib.Omega.{arith}
 use Rattle.window_count.specs.declared.Counted.{Counted}
-use Rattle.day_count.specs.Count.{day_count_spec}
 use Rattle.bench_calls.specs.Rounds.{counts_of}
 use Rattle.bench_calls.proofs.bench_day_counts.Goals as goal
 
-pub loop-i-init : goal.loop-i-init
+pub loop-init : goal.loop-init
 unfolding counts_of
-loop-i-init c = (omega arith, refl)
+loop-init c = refl
 
-pub loop-i-preserved : goal.loop-i-preserved
+pub loop-preserved : goal.loop-preserved
 unfolding counts_of
-loop-i-preserved c = (omega arith, rw add-one (ap (λ (r : Counted). r.inside) c.day_count-c.ensures))
+loop-preserved c = rw add-one (ap (λ (r : Counted). r.inside) c.day_count-c.ensures)
 
 pub returns : goal.returns
 returns c =
-    let done : c.loop-i.i ≡ c.args.rounds = omega arith in
-    rw (done, c.made-d.ensures) at c.loop-i.invariant.1
+    let done : c.loop.counter ≡ c.args.rounds = omega arith in
+    rw (done, c.made-d.ensures) at c.loop.invariant

@@ -1,5 +1,4 @@
 -- A making from the state of the plan. Assumes nothing.
-use borrow.Author.Rules.{rules}
 use mathlib.Core.Path.{ap, ◌∙◌}
 use Rattle.state.specs.declared.Sampler.{Sampler}
 use Rattle.day_set.specs.Calls.{make_spec}

@@ -1,5 +1,4 @@
 -- A reading, and an opening on the state that it leaves. Assumes nothing.
-use borrow.Author.Rules.{rules}
 use mathlib.Core.Path.{ap, ◌∙◌}
 use Rattle.points.specs.Run.{run_of}
 use Rattle.state.specs.declared.Sampler.{Sampler}

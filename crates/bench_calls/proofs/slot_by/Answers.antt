@@ -1,6 +1,5 @@
 -- `bench_calls::slot_by` meets its contract: each call answers its definition. Assumes nothing.
 use mathlib.Core.Path.{ap, ◌∙◌}
-use borrow.Author.Rules.{rules}
 use Rattle.calls.specs.declared.SecondOfDay.{SecondOfDay}
 use Rattle.calls.specs.declared.Slotted.{Slotted}
 use Rattle.bench_calls.specs.Rounds.{slot_by}

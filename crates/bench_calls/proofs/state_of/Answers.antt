@@ -1,5 +1,4 @@
 -- A reading's state. Assumes nothing.
-use borrow.Author.Rules.{rules}
 use mathlib.Core.Path.{ap}
 use Rattle.calls.specs.declared.Moved.{Moved}
 use Rattle.bench_calls.proofs.state_of.Goals as goal

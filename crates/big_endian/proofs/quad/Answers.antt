@@ -2,7 +2,6 @@
 use mathlib.Core.Path.{refl}
 use Prim.Native.Nat.{◌+◌, ◌*◌}
 use native.Mathlib.Omega.{arith}
-use borrow.Author.Rules.{rules}
 use Rattle.big_endian.specs.Bytes.{quad_at}
 use Rattle.big_endian.proofs.quad.Goals as goal
 

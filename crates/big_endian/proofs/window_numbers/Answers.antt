@@ -1,7 +1,7 @@
 -- `big_endian::window_numbers` meets its contract: the first k numbers are stored. Assumes nothing.
 use mathlib.Core.Path.{◌≡◌, ap, ◌∙◌}
 use mathlib.Core.List.{List}
-use Prim.Native.Nat.{ℕ, ◌-◌, ◌*◌, ◌≤◌}
+use Prim.Native.Nat.{ℕ, ◌*◌}
 use native.Mathlib.Omega.{arith}
 use lib.ListN.{set, replicate}
 use Rattle.numbers.specs.Listed.{listed, padded}
@@ -14,13 +14,13 @@ unfolding listed
 numbers_none f = padded_none 12
 
 pub loop-k-init : goal.loop-k-init
-loop-k-init c = (omega arith, numbers_none _)
+loop-k-init c = numbers_none _
 
 pub loop-k-preserved : goal.loop-k-preserved
 loop-k-preserved c =
     let a = c.args in
     let l = c.loop-k in
-    (omega arith, ap (λ (x : List ℕ). set x l.k c.quad-x.result) l.invariant.1 ∙ listed_store 12 (quad_at a.bytes.now) l.k c.quad-x.result (omega arith) c.quad-x.ensures)
+    ap (λ (x : List ℕ). set x l.k c.quad-x.result) l.invariant ∙ listed_store 12 (quad_at a.bytes.now) l.k c.quad-x.result (omega arith) c.quad-x.ensures
 
 pub returns : goal.returns
 unfolding window_in
@@ -28,4 +28,4 @@ returns c =
     let a = c.args in
     let l = c.loop-k in
     let e : l.k ≡ 2 * a.axes = omega arith in
-    l.invariant.1 ∙ ap (λ (k : ℕ). padded 12 (listed (quad_at a.bytes.now) k)) e
+    l.invariant ∙ ap (λ (k : ℕ). padded 12 (listed (quad_at a.bytes.now) k)) e

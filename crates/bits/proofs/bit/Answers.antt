@@ -1,5 +1,4 @@
 -- A shift brings the bit to the lowest place, and the mask 1 leaves it alone. Assumes nothing.
-use borrow.Author.Rules.{rules}
 use mathlib.Core.Path.{ap₂}
 use Prim.Native.Nat.{ℕ, ◌/◌, ◌%◌, ◌^◌}
 use native.Mathlib.Omega.{arith}

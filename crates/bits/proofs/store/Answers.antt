@@ -1,20 +1,7 @@
--- After i turns the first i elements of the block are written. Assumes nothing.
-use mathlib.Core.Path.{refl}
-use Prim.Native.Nat.{◌-◌, ◌≤◌}
+-- The part of the list that is copied to is the block's own. Assumes nothing.
 use native.Mathlib.Omega.{arith}
-use lib.ListN.{length}
-use Rattle.bits.proofs.OverwriteLaws.{Copied, copied_none, copied_next, copied_all}
+use Rattle.bits.proofs.OverwriteLaws.{over_part}
 use Rattle.bits.proofs.store.Goals as goal
 
-pub loop-i-init : goal.loop-i-init
-loop-i-init c = (omega arith, copied_none _ _ _)
-
-pub loop-i-preserved : goal.loop-i-preserved
-loop-i-preserved c =
-    (omega arith, copied_next _ _ _ c.loop-i.i _ _ (omega arith) (omega arith) refl refl c.loop-i.invariant.1)
-
-pub shape_of-list : goal.shape_of-list
-shape_of-list c = c.loop-i.invariant.1.size
-
 pub returns : goal.returns
-returns c = copied_all _ _ _ c.loop-i.i (omega arith) c.loop-i.invariant.1
+returns c = over_part _ _ _ _ _ c.copy_from_slice.ensures.after (omega arith)

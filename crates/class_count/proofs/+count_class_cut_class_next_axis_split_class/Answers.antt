@@ -98,9 +98,8 @@ turn : (t : ℕ) (c : split_class-After-is_whole t) →
     let i = c.loop-i.i in
     (i < base_in a.rows.now a.s) × (i < a.k)
 turn t c =
-    let e = c.class_number-end.ensures in
-    let l : c.loop-i.i < c.class_number-end.result = c.loop-i-test.true in
-    (omega (arith, e.0), omega (arith, e.1))
+    let l : c.loop-i.i < c.min-end.result = c.loop-i-test.true in
+    (omega arith, omega arith)
 
 -- the class of a turn
 size : (t : ℕ) (c : split_class-After-is_whole t) →
@@ -246,9 +245,7 @@ split_class-loop-i-preserved t c =
 
 pub split_class-returns : goal.split_class-returns
 split_class-returns t c =
-    let e = c.class_number-end.ensures in
-    let n : c.loop-i.i ≡ c.class_number-end.result = omega (arith, c.loop-i.invariant.1) in
     ⊎_elim
-    (λ l. split_full c.loop-i.invariant.0 (omega (arith, (held_digits c.requires.0 c.args.s (omega arith)).low)) (n ∙ e.2 l))
+    (λ l. split_full c.loop-i.invariant.0 (omega (arith, (held_digits c.requires.0 c.args.s (omega arith)).low)) (omega (arith, l, c.loop-i.invariant.1)))
     (λ l. split_all c.loop-i.invariant.0 (omega arith))
-    (lt_or_ge c.class_number-end.result c.args.k)
+    (lt_or_ge c.min-end.result c.args.k)

@@ -3,7 +3,6 @@ use mathlib.Core.Path.{refl}
 use Prim.Native.Nat.{◌%◌, ◌≤◌, ◌<◌}
 use native.Mathlib.Nat.{mod-lt, mod-le}
 use native.Mathlib.Omega.{arith}
-use borrow.Author.Rules.{rules}
 use Rattle.columns.proofs.tile_at.Goals as goal
 use Rattle.columns.proofs.tile_at.Goals.{Start}
 
@@ -16,6 +15,4 @@ overflow_sub-size c = omega (arith, place c)
 pub returns : goal.returns
 returns c =
     let p = place (goal.at.returns c).Start in
-    let e = c.least-end.ensures in
-    let f = e.2 c.args.i (omega (arith, p)) (omega arith) in
-    record { remainder = refl; back = p.1; further = f; in_rows = e.1; in_table = omega (arith, p, e.0, f) }
+    record { remainder = refl; back = p.1; further = omega (arith, p); in_rows = omega arith; in_table = omega (arith, p) }

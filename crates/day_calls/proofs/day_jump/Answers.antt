@@ -1,6 +1,7 @@
 -- `day_calls::day_jump` meets its contract: it is the run's jump behind the first word, and the point's number in that. Assumes nothing.
 -- the starts are tested first
 -- where the run's jump is taken
+use native.Mathlib.Omega.{arith}
 use mathlib.Core.Path.{◌≡◌, sym, ap, ◌∙◌}
 use mathlib.Core.Bool.{true}
 use mathlib.Core.List.{List, ◌∷◌}
@@ -34,16 +35,16 @@ index c = c.index_of-index.result
 lent : (c : After-jump-r) → let a = c.args in c.jump-r.result ≡ jump_spec a.d.run (index c) (drop 1 a.out.now)
 lent c =
     let a = c.args in
-    let l = c.least-first in
-    c.jump-r.ensures.0 ∙ ap (jump_spec a.d.run (index c)) (lent_is a.out.now l.result l.ensures.0 l.ensures.1 l.ensures.2)
+    let l = c.min-first in
+    c.jump-r.ensures.0 ∙ ap (jump_spec a.d.run (index c)) (lent_is a.out.now l.result (omega arith) (omega arith) (λ x h k. omega (arith, h, k)))
 
 room : (c : After-jump-r) → c.jump-r.result.code ≡ 0 → 1 ≤ length c.args.out.now
 room c z = let a = c.args in jump_room a.d.run (index c) a.out.now (sym (ap (λ (r : Jumped). r.code) (lent c)) ∙ z)
 
 pub put_number-requires : goal.put_number-requires
 put_number-requires c =
-    let l = c.least-first in
-    λ z. whole_long c.args.out.now l.result l.ensures.0 l.ensures.1 l.ensures.2 c.jump-r.new.out (room (goal.at.put_number-requires c).After-jump-r z)
+    let l = c.min-first in
+    λ z. whole_long c.args.out.now l.result (omega arith) (omega arith) (λ x h k. omega (arith, h, k)) c.jump-r.new.out (room (goal.at.put_number-requires c).After-jump-r z)
 
 -- what lies behind the first word is kept where the jump is refused
 behind : (c : After-jump-r) (part : List ℕ) → let a = c.args in let B = drop 1 a.out.now in
@@ -54,17 +55,17 @@ behind c part e k f =
 
 pub returns : goal.returns
 returns c =
-    let l = c.least-first in
+    let l = c.min-first in
     let a = c.args in
     let buf = a.out.now in
     let B = drop 1 buf in
     let i = c.index_of-index.ensures in
     let w = jump_wraps a.d (zero (goal.at.returns c).Else-not-from_zero) buf a.n (index (goal.at.returns c).After-jump-r) i.0 i.1 in
-    let is = lent_is buf l.result l.ensures.0 l.ensures.1 l.ensures.2 in
+    let is = lent_is buf l.result (omega arith) (omega arith) (λ x h k. omega (arith, h, k)) in
     let part = c.jump-r.ensures.1 ∙ ap (jump_buf a.d.run (index (goal.at.returns c).After-jump-r)) is in (
       lent (goal.at.returns c).After-jump-r ∙ sym w.0,
       c.put_number.ensures
-          ∙ put_is buf l.result l.ensures.0 l.ensures.1 l.ensures.2 _ a.n _ (room (goal.at.returns c).After-jump-r) (behind (goal.at.returns c).After-jump-r _ part)
+          ∙ put_is buf l.result (omega arith) (omega arith) (λ x h k. omega (arith, h, k)) _ a.n _ (room (goal.at.returns c).After-jump-r) (behind (goal.at.returns c).After-jump-r _ part)
           ∙ ap (λ (x : List ℕ). unless_number c.jump-r.result.code (a.n ∷ x) buf) part
           ∙ ap (λ (r : Jumped). unless_number r.code (a.n ∷ jump_buf a.d.run (index (goal.at.returns c).After-jump-r) B) buf) (lent (goal.at.returns c).After-jump-r)
           ∙ sym w.1,

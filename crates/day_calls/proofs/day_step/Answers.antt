@@ -1,6 +1,7 @@
 -- `day_calls::day_step` meets its contract: it is the run's step behind the first word, and the point's number in that. Assumes nothing.
 -- the starts are tested first
 -- where the run's step is taken
+use native.Mathlib.Omega.{arith}
 use mathlib.Core.Path.{◌≡◌, sym, ap, ◌∙◌}
 use mathlib.Core.Bool.{true}
 use mathlib.Core.List.{List, ◌∷◌}
@@ -31,16 +32,16 @@ returns-then-not-from_zero c =
 lent : (c : After-step-r) → let a = c.args in c.step-r.result ≡ step_spec a.d.run (drop 1 a.out.now)
 lent c =
     let a = c.args in
-    let l = c.least-first in
-    c.step-r.ensures.0 ∙ ap (step_spec a.d.run) (lent_is a.out.now l.result l.ensures.0 l.ensures.1 l.ensures.2)
+    let l = c.min-first in
+    c.step-r.ensures.0 ∙ ap (step_spec a.d.run) (lent_is a.out.now l.result (omega arith) (omega arith) (λ x h k. omega (arith, h, k)))
 
 room : (c : After-step-r) → c.step-r.result.code ≡ 0 → 1 ≤ length c.args.out.now
 room c z = let a = c.args in step_room a.d.run a.out.now (sym (ap (λ (r : Moved). r.code) (lent c)) ∙ z)
 
 pub put_number-requires : goal.put_number-requires
 put_number-requires c =
-    let l = c.least-first in
-    λ z. whole_long c.args.out.now l.result l.ensures.0 l.ensures.1 l.ensures.2 c.step-r.new.out (room (goal.at.put_number-requires c).After-step-r z)
+    let l = c.min-first in
+    λ z. whole_long c.args.out.now l.result (omega arith) (omega arith) (λ x h k. omega (arith, h, k)) c.step-r.new.out (room (goal.at.put_number-requires c).After-step-r z)
 
 -- what lies behind the first word is kept where the step is refused
 behind : (c : After-step-r) (part : List ℕ) → let a = c.args in let B = drop 1 a.out.now in
@@ -51,16 +52,16 @@ behind c part e k f =
 
 pub returns : goal.returns
 returns c =
-    let l = c.least-first in
+    let l = c.min-first in
     let a = c.args in
     let buf = a.out.now in
     let B = drop 1 buf in
     let w = step_wraps a.d (zero (goal.at.returns c).Else-not-from_zero) buf in
-    let is = lent_is buf l.result l.ensures.0 l.ensures.1 l.ensures.2 in
+    let is = lent_is buf l.result (omega arith) (omega arith) (λ x h k. omega (arith, h, k)) in
     let part = c.step-r.ensures.1 ∙ ap (step_buf a.d.run) is in (
       ap (λ (r : Moved). day_moved r.code (day_of r.state)) (lent (goal.at.returns c).After-step-r) ∙ sym w.0,
       c.put_number.ensures
-          ∙ put_is buf l.result l.ensures.0 l.ensures.1 l.ensures.2 _ a.d.run.taken _ (room (goal.at.returns c).After-step-r) (behind (goal.at.returns c).After-step-r _ part)
+          ∙ put_is buf l.result (omega arith) (omega arith) (λ x h k. omega (arith, h, k)) _ a.d.run.taken _ (room (goal.at.returns c).After-step-r) (behind (goal.at.returns c).After-step-r _ part)
           ∙ ap (λ (x : List ℕ). unless_number c.step-r.result.code (a.d.run.taken ∷ x) buf) part
           ∙ ap (λ (r : Moved). unless_number r.code (a.d.run.taken ∷ step_buf a.d.run B) buf) (lent (goal.at.returns c).After-step-r)
           ∙ sym w.1,

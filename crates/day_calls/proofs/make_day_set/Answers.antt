@@ -1,12 +1,10 @@
 -- `day_calls::make_day_set` meets its contract: it is an opening from 0 on each axis. Assumes nothing.
 use mathlib.Core.Path.{◌≡◌, refl, sym, ap, ◌∙◌}
 use mathlib.Core.Bool.{true}
-use mathlib.Core.Logic.{⊎_elim}
-use Prim.Native.Nat.{ℕ, zero, suc, ◌≤◌, ◌<◌}
+use Rattle.std.specs.Prelude.{ℕ, zero, suc, min}
 use native.Mathlib.Omega.{arith}
 use borrow.Author.Rules.{rules}
 use lib.Seq.{length-take-le}
-use Rattle.numbers.proofs.Cases.{lt_or_ge}
 use Rattle.plan.specs.Order.{unless_number}
 use Rattle.state.specs.State.{genuine}
 use Rattle.state.specs.declared.Sampler.{Sampler}
@@ -22,9 +20,8 @@ pub slice_bounds-open-end : goal.slice_bounds-open-end
 slice_bounds-open-end c = sym (length-take-le _ _ (omega arith))
 
 -- a genuine state has six axes at most: one zero is lent for each
-all : (s : Sampler) (axes : ℕ) → (axes ≤ s.axes) × (axes ≤ 6) × ((x : ℕ) → x < s.axes → x < 6 → x < axes) → genuine s ≡ true → axes ≡ s.axes
-all s axes l g =
-    ⊎_elim (λ h. absurd (omega (arith, l.2 axes h (omega (arith, (axes_few s g).1))))) (λ h. omega (arith, l.0)) (lt_or_ge axes s.axes)
+all : (s : Sampler) (axes : ℕ) → axes ≡ min s.axes 6 → genuine s ≡ true → axes ≡ s.axes
+all s axes l g = omega (arith, l, (axes_few s g).1)
 
 refused : (a : Moved) → (a.code ≡ 0 → ⊥) → (d : DaySet) → d ≡ day_blank → day_moved a.code d ≡ made_by a
 refused a f d e = ap (day_moved a.code) (e ∙ go a.code f)
@@ -39,9 +36,9 @@ done a z = rw z refl
 pub returns-then-r-ne0 : goal.returns-then-r-ne0
 returns-then-r-ne0 c =
     refused c.open-r.result (λ z. omega arith) _ c.blank_day_set.ensures
-    ∙ ap made_by c.open-r.ensures ∙ sym (make_zeros _ _ _ (all _ _ c.least-axes.ensures))
+    ∙ ap made_by c.open-r.ensures ∙ sym (make_zeros _ _ _ (all _ _ c.min-axes.ensures))
 
 pub returns : goal.returns
 returns c =
     done c.open-r.result (omega arith)
-    ∙ ap made_by c.open-r.ensures ∙ sym (make_zeros _ _ _ (all _ _ c.least-axes.ensures))
+    ∙ ap made_by c.open-r.ensures ∙ sym (make_zeros _ _ _ (all _ _ c.min-axes.ensures))

@@ -107,14 +107,17 @@ slice_bounds-count_inside-start c = omega (arith, long (goal.at.slice_bounds-cou
 rest : (w : List ℕ) → take (length w - 2) (drop 2 w) ≡ drop 2 w
 rest w = take_all (length w - 2) (drop 2 w) (omega (arith, length-drop 2 w))
 
+pub invariant_of-p : goal.invariant_of-p
+invariant_of-p c = record { fit = known_arrays _ (whole (goal.at.invariant_of-p c).Else-not-is_window) }
+
 pub count_inside-inside-requires : goal.count_inside-inside-requires
 count_inside-inside-requires c =
     let a = c.args in
-    (known_arrays _ (whole (goal.at.count_inside-inside-requires c).Else-not-is_window), within_all 0 _ (omega (arith, first_small (goal.at.count_inside-inside-requires c).After-cut_limit-first)), rw (rest a.w.now) (window_room _ _ (window_rest _ _ (fits (goal.at.count_inside-inside-requires c).Else-not-is_window))))
+    (within_all 0 _ (omega (arith, first_small (goal.at.count_inside-inside-requires c).After-cut_limit-first)), rw (rest a.w.now) (window_room _ _ (window_rest _ _ (fits (goal.at.count_inside-inside-requires c).Else-not-is_window))))
 
 pub bound-bound-requires : goal.bound-bound-requires
 bound-bound-requires c =
-    (known_arrays _ (whole (goal.at.bound-bound-requires c).Else-not-is_window), small (goal.at.bound-bound-requires c).Else-not-is_window)
+    small (goal.at.bound-bound-requires c).Else-not-is_window
 
 pub day_bound-requires : goal.day_bound-requires
 day_bound-requires c = day_bound_fits _ (known (goal.at.day_bound-requires c).Else-not-is_genuine) c.bound-bound.ensures

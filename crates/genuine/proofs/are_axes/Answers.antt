@@ -1,14 +1,11 @@
 -- The loop's invariant: the axes so far fit. Assumes nothing.
 use mathlib.Core.Path.{◌≡◌}
-use Prim.Native.Nat.{◌-◌, ◌≤◌}
 use native.Mathlib.Omega.{arith}
-use borrow.Author.Tests.{not-true, not-false}
-use Rattle.fitting.specs.Fits.{FitAxes}
 use Rattle.fitting.proofs.AnswerLaws.{yes, failed, no_axes, axis_more, part_is, part_long}
 use Rattle.genuine.proofs.are_axes.Goals as goal
 
 pub loop-i-init : goal.loop-i-init
-loop-i-init c = (omega arith, no_axes _ _)
+loop-i-init c = no_axes _ _
 
 pub returns-then-not-is_new : goal.returns-then-not-is_new
 returns-then-not-is_new c =
@@ -28,10 +25,10 @@ pub loop-i-preserved : goal.loop-i-preserved
 loop-i-preserved c =
     let new = c.is_new.ensures.0 c.if-not-is_new.false in
     let one = c.is_axis.ensures.0 c.if-not-is_axis.false in
-    (omega arith, axis_more c.loop-i.invariant.1 new (rw (part_is c.args.directions.now c.loop-i.i) at one))
+    axis_more c.loop-i.invariant new (rw (part_is c.args.directions.now c.loop-i.i) at one)
 
 pub returns : goal.returns
 returns c =
     let l = c.loop-i in
     let e : l.i ≡ c.args.n = omega arith in
-    yes (rw e at l.invariant.1)
+    yes (rw e at l.invariant)

@@ -1,14 +1,11 @@
 -- The loop's invariant: the bases so far fit. Assumes nothing.
 use mathlib.Core.Path.{◌≡◌}
-use Prim.Native.Nat.{◌-◌, ◌≤◌}
 use native.Mathlib.Omega.{arith}
-use borrow.Author.Tests.{not-true, not-false}
-use Rattle.fitting.specs.Fits.{FitBases}
 use Rattle.fitting.proofs.AnswerLaws.{no, yes, failed, no_bases, base_more}
 use Rattle.genuine.proofs.are_bases.Goals as goal
 
 pub loop-i-init : goal.loop-i-init
-loop-i-init c = (omega arith, no_bases _)
+loop-i-init c = no_bases _
 
 pub returns-then-b-lt2 : goal.returns-then-b-lt2
 returns-then-b-lt2 c = let i = c.loop-i.i in no (λ f. omega (arith, f.low i (omega arith)))
@@ -24,10 +21,10 @@ returns-then-not-is_coprime c =
 pub loop-i-preserved : goal.loop-i-preserved
 loop-i-preserved c =
     let l = c.loop-i in
-    (omega arith, base_more l.invariant.1 (omega arith) (omega arith) (c.is_coprime.ensures.0 c.if-not-is_coprime.false))
+    base_more l.invariant (omega arith) (omega arith) (c.is_coprime.ensures.0 c.if-not-is_coprime.false)
 
 pub returns : goal.returns
 returns c =
     let l = c.loop-i in
     let e : l.i ≡ c.args.n = omega arith in
-    yes (rw e at l.invariant.1)
+    yes (rw e at l.invariant)

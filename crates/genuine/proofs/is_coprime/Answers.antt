@@ -1,13 +1,11 @@
 -- The loop's invariant: b is coprime to the bases so far. Assumes nothing.
 use mathlib.Core.Path.{◌≡◌}
-use Prim.Native.Nat.{◌-◌, ◌≤◌}
 use native.Mathlib.Omega.{arith}
-use Rattle.fitting.specs.Fits.{CoprimeTo}
 use Rattle.fitting.proofs.AnswerLaws.{no, yes, coprime_none, coprime_more, not_coprime}
 use Rattle.genuine.proofs.is_coprime.Goals as goal
 
 pub loop-j-init : goal.loop-j-init
-loop-j-init c = (omega arith, coprime_none _ _)
+loop-j-init c = coprime_none _ _
 
 pub gcd-requires : goal.gcd-requires
 gcd-requires c = tt
@@ -18,10 +16,10 @@ returns-then-gcd-ne1 c =
 
 pub loop-j-preserved : goal.loop-j-preserved
 loop-j-preserved c =
-    (omega arith, coprime_more c.loop-j.invariant.1 c.gcd.ensures (omega arith))
+    coprime_more c.loop-j.invariant c.gcd.ensures (omega arith)
 
 pub returns : goal.returns
 returns c =
     let l = c.loop-j in
     let e : l.j ≡ c.args.n = omega arith in
-    yes (rw e at l.invariant.1)
+    yes (rw e at l.invariant)

@@ -1,38 +1,31 @@
 -- The first part that fails decides; the last decides where the others hold. Assumes nothing.
 use native.Mathlib.Omega.{arith}
-use borrow.Author.Tests.{not-true, not-false}
-use Rattle.state.specs.State.{state_of}
-use Rattle.state.specs.declared.Sampler.{Sampler}
-use Rattle.fitting.specs.Fits.{FitPlan, FitRun}
+use Rattle.fitting.specs.Fits.{FitPlan, FitRun, Sized}
 use Rattle.fitting.proofs.AnswerLaws.{no, failed, rests}
 use Rattle.fitting.proofs.FitLaws.{fit_arrays, fit_within, decided}
 use Rattle.genuine.proofs.is_genuine.Goals as goal
-use Rattle.genuine.proofs.is_genuine.Goals.{Else-axes-gt6, Else-not-is_plan, Else-not-is_run}
+use Rattle.genuine.proofs.is_genuine.Goals.{Start, Else-not-is_plan, Else-not-is_run}
 
-run : (c : Else-not-is_run) → FitRun c.args.family c.args.axes c.args.starts.now c.args.count c.args.taken
+-- the arrays' types have their lengths
+sized : (c : Start) → Sized c.args.s.now
+sized c = record { bases = omega arith; polynomials = omega arith; directions = omega arith; starts = omega arith; numerators = omega arith }
+
+run : (c : Else-not-is_run) → FitRun c.args.s.now.family c.args.s.now.axes c.args.s.now.starts c.args.s.now.count c.args.s.now.taken
 run c = c.is_run.ensures.0 c.if-not-is_run.false
 
 held : (c : Else-not-is_plan) →
-    FitPlan c.args.family c.args.axes c.args.bases.now c.args.polynomials.now c.args.directions.now
+    FitPlan c.args.s.now.family c.args.s.now.axes c.args.s.now.bases c.args.s.now.polynomials c.args.s.now.directions
 held c = c.is_plan.ensures.0 c.if-not-is_plan.false
 
-pub returns-then-axes-lt1 : goal.returns-then-axes-lt1
-returns-then-axes-lt1 c = decided _ _ (no (λ f. omega (arith, f.few)))
+pub returns-then-s-lt1 : goal.returns-then-s-lt1
+returns-then-s-lt1 c = decided _ _ (no (λ f. omega (arith, f.few)))
 
-pub returns-then-axes-gt6 : goal.returns-then-axes-gt6
-returns-then-axes-gt6 c = decided _ _ (no (λ f. omega (arith, f.few)))
-
-pub is_run-requires : goal.is_run-requires
-is_run-requires c = omega (arith, c.requires.starts)
+pub returns-then-s-gt6 : goal.returns-then-s-gt6
+returns-then-s-gt6 c = decided _ _ (no (λ f. omega (arith, f.few)))
 
 pub returns-then-not-is_run : goal.returns-then-not-is_run
 returns-then-not-is_run c =
     decided _ _ (failed c.is_run.ensures c.if-not-is_run.true (λ f. f.run))
-
-pub is_plan-requires : goal.is_plan-requires
-is_plan-requires c =
-    let k = c.requires in
-    (omega arith, k.bases, k.polynomials, k.directions)
 
 pub returns-then-not-is_plan : goal.returns-then-not-is_plan
 returns-then-not-is_plan c =
@@ -41,9 +34,8 @@ returns-then-not-is_plan c =
 
 pub is_next-requires : goal.is_next-requires
 is_next-requires c =
-    let k = c.requires in (
+    let k = sized (goal.at.is_next-requires c).Start in (
       fit_arrays _ _ _ _ _ (omega arith, omega arith) k.bases k.polynomials k.directions (held (goal.at.is_next-requires c).Else-not-is_plan),
-      k.numerators,
       fit_within _ _ _ _ _ (omega arith, omega arith) k.bases k.polynomials k.directions k.starts (held (goal.at.is_next-requires c).Else-not-is_plan) (run (goal.at.is_next-requires c).Else-not-is_run),
     )
 
@@ -52,7 +44,7 @@ returns c =
     decided _ _
     (rests c.is_next.ensures
     (λ z. record {
-      sized = c.requires;
+      sized = sized (goal.at.returns c).Start;
       few = (omega arith, omega arith);
       run = run (goal.at.returns c).Else-not-is_run;
       plan = held (goal.at.returns c).Else-not-is_plan;

@@ -1,12 +1,10 @@
 -- The first part that fails decides; the last decides where the others hold. Assumes nothing.
 use native.Mathlib.Omega.{arith}
-use borrow.Author.Tests.{not-true, not-false}
 use Rattle.fitting.proofs.AnswerLaws.{no, failed, rests}
-use borrow.Author.Rules.{rules}
 use Rattle.genuine.proofs.is_halton.Goals as goal
 
-pub returns-then-family-gt3 : goal.returns-then-family-gt3
-returns-then-family-gt3 c = no (λ f. omega (arith, f.kind.0))
+pub returns-then-s-gt3 : goal.returns-then-s-gt3
+returns-then-s-gt3 c = no (λ f. omega (arith, f.kind.0))
 
 pub returns-then-not-are_bases : goal.returns-then-not-are_bases
 returns-then-not-are_bases c = failed c.are_bases.ensures c.if-not-are_bases.true (λ f. f.bases_fit)

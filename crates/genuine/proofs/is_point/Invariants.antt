@@ -1,13 +1,8 @@
 -- The loop's invariant: the words so far are the point's. Assumes nothing.
-use Prim.Native.Nat.{◌+◌, ◌-◌, ◌≤◌}
-use native.Mathlib.Omega.{arith}
+use Prim.Native.Nat.{◌+◌}
 use Rattle.points.specs.Arrays.{of_axis}
-use Rattle.points.proofs.ArrayLaws.{axis_at_lem}
-use Rattle.fitting.proofs.AnswerLaws.{no, rests, PointTo, point_none, point_more}
+use Rattle.fitting.proofs.AnswerLaws.{PointTo}
 use Rattle.genuine.proofs.is_point.Given as goal
 
 abbrev pub invariant-loop-axis : goal.invariant-loop-axis
-invariant-loop-axis l = (l.axis ≤ l.axes) × PointTo l.family l.bases l.directions l.x (λ i. of_axis l.starts i + l.t) l.axis
-
-abbrev pub decreases-loop-axis : goal.decreases-loop-axis
-decreases-loop-axis l = l.axes - l.axis
+invariant-loop-axis l = PointTo l.s.family l.s.bases l.s.directions l.s.numerators (λ i. of_axis l.s.starts i + l.s.taken) l.axis

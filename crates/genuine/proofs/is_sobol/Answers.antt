@@ -1,7 +1,5 @@
 -- The first part that fails decides; the last decides where the others hold. Assumes nothing.
-use borrow.Author.Tests.{not-true, not-false}
 use Rattle.fitting.proofs.AnswerLaws.{failed, rests}
-use borrow.Author.Rules.{rules}
 use Rattle.genuine.proofs.is_sobol.Goals as goal
 
 pub returns-then-not-is_zero : goal.returns-then-not-is_zero

@@ -1,8 +1,6 @@
 -- The loop's invariant: the or of the words so far is 0 exactly where they all are. Assumes nothing.
-use Prim.Native.Nat.{◌-◌}
 use native.Mathlib.Omega.{arith}
-use lib.ListN.{length}
-use Rattle.fitting.proofs.AnswerLaws.{ZerosTo, zeros_none, zeros_more, zeros_end}
+use Rattle.fitting.proofs.AnswerLaws.{zeros_none, zeros_more, zeros_end}
 use Rattle.genuine.proofs.is_zero.Goals as goal
 
 pub loop-i-init : goal.loop-i-init

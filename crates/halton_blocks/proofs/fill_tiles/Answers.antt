@@ -1,12 +1,11 @@
 -- `halton_blocks::fill_tiles` meets its contract: the rows up to i are written, and each part is a run of the table. Assumes nothing.
 use mathlib.Core.Path.{◌≡◌, ◌∙◌}
-use Prim.Native.Nat.{◌+◌, ◌-◌, ◌≤◌}
+use Prim.Native.Nat.{◌+◌, ◌-◌}
 use native.Mathlib.Nat.{mul-le-mul_right}
 use native.Mathlib.Omega.{arith}
 use Rattle.halton.specs.Axis.{numerator}
 use Rattle.halton.specs.Images.{image_in}
 use Rattle.halton.proofs.ImageLaws.{numerator_by_table}
-use Rattle.columns.specs.Rows.{Column}
 use Rattle.columns.proofs.ColumnLaws.{column_none, column_to, column_join, column_as}
 use Rattle.columns.proofs.TileLaws.{table_pos}
 use Rattle.tables.specs.Tables.{tabled}

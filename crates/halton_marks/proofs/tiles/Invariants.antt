@@ -1,15 +1,7 @@
 -- `halton_marks::tiles` meets its contract: the flags up to i are tested, and each part is a run of the table. Assumes nothing.
-use mathlib.Core.Path.{◌≡◌, ◌∙◌}
-use Prim.Native.Nat.{◌+◌, ◌-◌, ◌≤◌}
-use native.Mathlib.Omega.{arith}
-use Rattle.halton.specs.Axis.{numerator}
-use Rattle.halton.specs.Images.{image_in}
-use Rattle.halton.proofs.ImageLaws.{numerator_by_table}
-use Rattle.columns.proofs.TileLaws.{table_pos}
+use Prim.Native.Nat.{◌-◌, ◌≤◌}
 use Rattle.tables.specs.Tables.{tabled}
-use Rattle.tables.proofs.TableLaws.{tabled_run}
 use Rattle.marks.specs.Marking.{Marked}
-use Rattle.marks.proofs.MarkLaws.{marked_none, marked_to, marked_as, marked_join}
 use Rattle.halton_marks.proofs.tiles.Given as goal
 
 abbrev pub invariant-loop-i : goal.invariant-loop-i

@@ -1,7 +1,6 @@
 -- One case law a return: the reading's answer, then the refusal's number, say which. Assumes nothing.
 use mathlib.Core.Path.{◌≡◌, sym, ap, ◌∙◌}
 use native.Mathlib.Omega.{arith}
-use borrow.Author.Rules.{rules}
 use mathlib.Core.Bool.{Bool}
 use lib.ListN.{length}
 use Rattle.bits.proofs.StreamLaws.{below_of}

@@ -3,7 +3,6 @@ use mathlib.Core.Path.{◌≡◌, sym, ap, ◌∙◌, subst}
 use mathlib.Core.List.{List}
 use Prim.Native.Nat.{ℕ, ◌*◌}
 use native.Mathlib.Omega.{arith}
-use borrow.Author.Rules.{rules}
 use lib.ListN.{length, take}
 use Rattle.plan.specs.Answer.{plan_answered}
 use Rattle.points.proofs.RunLaws.{start_is, within_all}
@@ -36,19 +35,21 @@ overflow_mul-end c = omega (arith, accepted_few c.requires.0)
 pub slice_bounds-w-end : goal.slice_bounds-w-end
 slice_bounds-w-end c = omega (arith, accepted_few c.requires.0)
 
-pub slice_bounds-count_inside-end-4 : goal.slice_bounds-count_inside-end-4
-slice_bounds-count_inside-end-4 c = sym (ap length (numbers (goal.at.slice_bounds-count_inside-end-4 c).After-window_numbers-w) ∙ window_length _ _)
+pub slice_bounds-count_inside-end-2 : goal.slice_bounds-count_inside-end-2
+slice_bounds-count_inside-end-2 c = sym (ap length (numbers (goal.at.slice_bounds-count_inside-end-2 c).After-window_numbers-w) ∙ window_length _ _)
+
+pub invariant_of-p : goal.invariant_of-p
+invariant_of-p c = record { fit = holds_arrays (held (goal.at.invariant_of-p c).After-plan_directions-directions) c.requires.0.valid }
 
 pub count_inside-inside-requires : goal.count_inside-inside-requires
 count_inside-inside-requires c = (
-  holds_arrays (held (goal.at.count_inside-inside-requires c).After-plan_directions-directions) c.requires.0.valid,
   within_all c.args.start c.args.count (start_is c.args.start c.args.count c.requires.1),
   subst (λ (w : List ℕ). Room w c.args.a.axes) (sym (numbers (goal.at.count_inside-inside-requires c).After-window_numbers-w)) (window_room _ _ (window_bytes _ _ c.requires.2).1),
 )
 
 pub bound-bound-requires : goal.bound-bound-requires
 bound-bound-requires c =
-    (holds_arrays (held (goal.at.bound-bound-requires c).After-plan_directions-directions) c.requires.0.valid, omega (arith, start_is c.args.start c.args.count c.requires.1))
+    omega (arith, start_is c.args.start c.args.count c.requires.1)
 
 pub returns : goal.returns
 returns c =

@@ -21,9 +21,12 @@ front c =
     let six : length c.point-x.result ≡ 6 = search rules in
     length-take-le c.args.a.axes c.point-x.result (omega (arith, accepted_few c.requires.0))
 
+pub invariant_of-p : goal.invariant_of-p
+invariant_of-p c = record { fit = holds_arrays (held (goal.at.invariant_of-p c).After-plan_directions-directions) c.requires.0.valid }
+
 pub point-x-requires : goal.point-x-requires
 point-x-requires c =
-    (holds_arrays (held (goal.at.point-x-requires c).After-plan_directions-directions) c.requires.0.valid, within_all 0 _ (omega arith))
+    within_all 0 _ (omega arith)
 
 pub slice_bounds-x-end : goal.slice_bounds-x-end
 slice_bounds-x-end c =

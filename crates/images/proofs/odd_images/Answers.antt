@@ -2,17 +2,14 @@
 use mathlib.Core.Path.{◌≡◌, refl, ap, ◌∙◌}
 use Prim.Native.Nat.{ℕ, ◌+◌, ◌*◌, ◌/◌, ◌<◌}
 use native.Mathlib.Omega.{arith}
-use lib.ListN.{get_or, length-set}
+use lib.ListN.{get_or}
 use Rattle.permutation.specs.Faure.{open_gap, faure}
 use Rattle.permutation.proofs.FaureRules.{odd_middle}
 use Rattle.permutation.proofs.FaureLaws.{faure_below}
-use Rattle.images.proofs.ImageLaws.{halves_none, halves_more, halves_centre}
+use Rattle.images.proofs.ImageLaws.{halves_more, halves_centre}
 use Rattle.images.proofs.HalfLaws.{odd_low, odd_high}
 use Rattle.images.proofs.odd_images.Goals as goal
 use Rattle.images.proofs.odd_images.Goals.{In-loop-k}
-
-pub loop-k-init : goal.loop-k-init
-loop-k-init c = (omega arith, halves_none _ _ c.requires.4, refl)
 
 -- the entry that a turn reads
 entry : (c : In-loop-k) →
@@ -21,7 +18,7 @@ entry : (c : In-loop-k) →
 entry c =
     let a = c.args in
     let l = c.loop-k in
-    let e = l.invariant.1.rest l.k (omega arith) (omega arith) in
+    let e = l.invariant.rest l.k (omega arith) (omega arith) in
     (e, omega (arith, e, faure_below (a.b / 2) l.k (omega arith) (omega arith)))
 
 pub overflow_mul-x : goal.overflow_mul-x
@@ -30,14 +27,8 @@ overflow_mul-x c = omega (arith, entry (goal.at.overflow_mul-x c).In-loop-k)
 pub raise-low-requires : goal.raise-low-requires
 raise-low-requires c = omega (arith, entry (goal.at.raise-low-requires c).In-loop-k)
 
-pub overflow_add-x : goal.overflow_add-x
-overflow_add-x c = omega (arith, entry (goal.at.overflow_add-x c).In-loop-k)
-
 pub raise-high-requires : goal.raise-high-requires
 raise-high-requires c = omega (arith, entry (goal.at.raise-high-requires c).In-loop-k)
-
-pub bounds-l-c : goal.bounds-l-c
-bounds-l-c c = simp length-set (omega arith)
 
 pub loop-k-preserved : goal.loop-k-preserved
 loop-k-preserved c =
@@ -47,17 +38,11 @@ loop-k-preserved c =
     let low : c.raise-low.result ≡ faure a.b l.k =
     c.raise-low.ensures ∙ ap (λ (x : ℕ). open_gap (a.b / 2) (2 * x)) e ∙ odd_low (omega arith) c.requires.2 (omega arith) in
     let high : c.raise-high.result ≡ faure a.b (a.b / 2 + 1 + l.k) =
-    c.raise-high.ensures ∙ ap (λ (x : ℕ). open_gap (a.b / 2) (2 * x + 1)) e ∙ odd_high (omega arith) c.requires.2 (omega arith) in (
-      omega arith,
-      halves_more l.invariant.1 (omega arith) (omega arith) (omega arith) (omega arith) (omega arith) (omega arith) (omega arith),
-      simp length-set l.invariant.2,
-    )
-
-pub shape_of-l : goal.shape_of-l
-shape_of-l c = simp length-set c.loop-k.invariant.2
+    c.raise-high.ensures ∙ ap (λ (x : ℕ). open_gap (a.b / 2) (2 * x + 1)) e ∙ odd_high (omega arith) c.requires.2 (omega arith) in
+    halves_more l.invariant (omega arith) (omega arith) (omega arith) (omega arith) (omega arith) (omega arith) (omega arith)
 
 pub returns : goal.returns
 returns c =
     let b = c.args.b in
-    halves_centre c.loop-k.invariant.1 (omega arith) (omega arith) (omega arith) (omega arith)
+    halves_centre c.loop-k.invariant (omega arith) (omega arith) (omega arith) (omega arith)
     (omega (arith, odd_middle b (b / 2) (omega arith) c.requires.2 refl))

@@ -34,9 +34,11 @@ returns-then-out-axes c =
     let a = c.args in
     let w = jump_no_room a.s a.n a.out.now (known (goal.at.returns-then-out-axes c).Else-not-is_genuine) (omega arith) (omega arith) in (sym w.0, sym w.1)
 
+pub invariant_of-p : goal.invariant_of-p
+invariant_of-p c = record { fit = known_arrays _ (known (goal.at.invariant_of-p c).Else-not-is_genuine) }
+
 pub point-x-requires : goal.point-x-requires
-point-x-requires c =
-    (known_arrays _ (known (goal.at.point-x-requires c).Else-not-is_genuine), within_all 0 _ (omega arith))
+point-x-requires c = within_all 0 _ (omega arith)
 
 -- the point is that of the index on every axis
 point : (c : After-point-x) → let a = c.args in

@@ -3,7 +3,6 @@ use mathlib.Core.Path.{refl}
 use Prim.Native.Nat.{◌-◌, ◌*◌, ◌^◌, ◌≤◌}
 use native.Mathlib.Nat.{mul-le-mul}
 use native.Mathlib.Omega.{arith}
-use borrow.Author.Rules.{rules}
 use Rattle.inside_count.specs.Flagging.{cut_limit}
 use Rattle.inside_count.proofs.cut_limit.Goals as goal
 use Rattle.inside_count.proofs.cut_limit.Goals.{Start}

@@ -1,6 +1,5 @@
 -- The digits counted and those of what is left are together the digits of n. Assumes nothing.
-use mathlib.Core.Path.{◌≡◌, ap}
-use Prim.Native.Nat.{◌+◌}
+use mathlib.Core.Path.{ap}
 use native.Mathlib.Nat.{zero-add, div-lt_self}
 use native.Mathlib.Omega.{arith}
 use Rattle.numbers.specs.Digits.{digit_count}

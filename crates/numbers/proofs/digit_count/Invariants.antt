@@ -1,10 +1,7 @@
 -- The digits counted and those of what is left are together the digits of n. Assumes nothing.
-use mathlib.Core.Path.{◌≡◌, ap}
+use mathlib.Core.Path.{◌≡◌}
 use Prim.Native.Nat.{◌+◌}
-use native.Mathlib.Nat.{zero-add, div-lt_self}
-use native.Mathlib.Omega.{arith}
 use Rattle.numbers.specs.Digits.{digit_count}
-use Rattle.numbers.proofs.DigitLaws.{digit_count_step, digit_count_zero, digit_count_word}
 use Rattle.numbers.proofs.digit_count.Given as goal
 
 abbrev pub invariant-loop-rest : goal.invariant-loop-rest

@@ -1,5 +1,5 @@
 -- Four more factors reach 2^32; then two, then one. Assumes nothing.
-use Prim.Native.Nat.{◌*◌, ◌^◌}
+use Prim.Native.Nat.{◌*◌}
 use native.Mathlib.Nat.{mul_assoc}
 use native.Mathlib.Omega.{arith}
 use Rattle.numbers.proofs.DepthLaws.{fourth_fits, power_first, power_second, Near, near_raised, near_last}

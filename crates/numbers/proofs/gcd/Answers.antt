@@ -1,8 +1,7 @@
 -- Euclid's rule keeps the greatest common divisor of the two numbers that the loop holds. Assumes nothing.
-use mathlib.Core.Path.{◌≡◌, refl, sym, ◌∙◌}
+use mathlib.Core.Path.{refl, sym, ◌∙◌}
 use native.Mathlib.Nat.{mod-lt}
 use native.Mathlib.Omega.{arith}
-use Rattle.numbers.specs.Gcd.{gcd}
 use Rattle.numbers.proofs.GcdLaws.{gcd_step, gcd_zero}
 use Rattle.numbers.proofs.gcd.Goals as goal
 

@@ -1,9 +1,6 @@
 -- Euclid's rule keeps the greatest common divisor of the two numbers that the loop holds. Assumes nothing.
-use mathlib.Core.Path.{◌≡◌, refl, sym, ◌∙◌}
-use native.Mathlib.Nat.{mod-lt}
-use native.Mathlib.Omega.{arith}
+use mathlib.Core.Path.{◌≡◌}
 use Rattle.numbers.specs.Gcd.{gcd}
-use Rattle.numbers.proofs.GcdLaws.{gcd_step, gcd_zero}
 use Rattle.numbers.proofs.gcd.Given as goal
 
 abbrev pub invariant-loop-y : goal.invariant-loop-y

@@ -1,27 +1,16 @@
--- After i turns the product is b ^ i, which is at most the power asked for and so fits. Assumes nothing.
+-- After i factors the product is b ^ i, which is at most the power asked for and so fits. Assumes nothing.
 use mathlib.Core.Path.{◌≡◌, sym, ap, ◌∙◌}
-use Prim.Native.Nat.{ℕ, ◌+◌, ◌-◌, ◌*◌, ◌^◌, ◌≤◌}
-use native.Mathlib.Nat.{pow-zero}
+use Prim.Native.Nat.{ℕ, ◌+◌, ◌*◌, ◌^◌}
 use native.Mathlib.Omega.{arith}
 use Rattle.numbers.proofs.DigitLaws.{pow_one_more, pow_up_to}
 use Rattle.numbers.proofs.power.Goals as goal
 use Rattle.numbers.proofs.power.Goals.{In-loop-i}
 
-pub loop-i-init : goal.loop-i-init
-loop-i-init c = (omega arith, sym (pow-zero _))
-
--- a turn's product is the next power
+-- the product is the next power
 next : (c : In-loop-i) → c.loop-i.p * c.args.b ≡ c.args.b ^ (c.loop-i.i + 1)
-next c = ap (λ (x : ℕ). x * c.args.b) c.loop-i.invariant.1 ∙ sym (pow_one_more _ _)
+next c = ap (λ (x : ℕ). x * c.args.b) c.loop-i.invariant ∙ sym (pow_one_more _ _)
 
 pub overflow_mul-p : goal.overflow_mul-p
 overflow_mul-p c =
     let a = c.args in
     omega (arith, next c, pow_up_to a.b {j = c.loop-i.i + 1} {k = a.k} (omega arith) (omega arith))
-
-pub loop-i-preserved : goal.loop-i-preserved
-loop-i-preserved c = (omega arith, next c)
-
-pub returns : goal.returns
-returns c =
-    c.loop-i.invariant.1 ∙ ap (λ (x : ℕ). c.args.b ^ x) {x = c.loop-i.i} {y = c.args.k} (omega arith)

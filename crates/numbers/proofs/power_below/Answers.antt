@@ -1,6 +1,5 @@
 -- The loop's number is a power of b below 2^32, and so is the next one while the test holds. Assumes nothing.
-use mathlib.Core.Path.{◌≡◌, sym}
-use Prim.Native.Nat.{ℕ, ◌-◌, ◌^◌, ◌<◌}
+use mathlib.Core.Path.{sym}
 use native.Mathlib.Nat.{pow-zero}
 use native.Mathlib.Omega.{arith}
 use Rattle.numbers.proofs.DigitLaws.{pow_pos}

@@ -1,10 +1,6 @@
 -- The loop's number is a power of b below 2^32, and so is the next one while the test holds. Assumes nothing.
-use mathlib.Core.Path.{◌≡◌, sym}
+use mathlib.Core.Path.{◌≡◌}
 use Prim.Native.Nat.{ℕ, ◌-◌, ◌^◌, ◌<◌}
-use native.Mathlib.Nat.{pow-zero}
-use native.Mathlib.Omega.{arith}
-use Rattle.numbers.proofs.DigitLaws.{pow_pos}
-use Rattle.numbers.proofs.DepthLaws.{rising_nears, fourth_fits, fourth_grows, fourth_product, fourth_more}
 use Rattle.numbers.proofs.power_below.Given as goal
 
 abbrev pub invariant-loop-p : goal.invariant-loop-p

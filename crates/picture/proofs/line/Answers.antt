@@ -1,6 +1,5 @@
 -- A line leaves at most 32 windows, and the buffers their lengths. Assumes nothing.
 use native.Mathlib.Omega.{arith}
-use borrow.Author.Rules.{rules}
 use Rattle.picture.proofs.line.Goals as goal
 
 pub returns-then-l-gt1024 : goal.returns-then-l-gt1024

@@ -1,9 +1,6 @@
--- The buffers keep their lengths, and the turns run down.
-use Rattle.std.proofs.Common.{◌≡◌, ◌≤◌, length}
+-- At most 32 windows are kept.
+use Rattle.std.proofs.Common.{◌≤◌}
 use Rattle.picture.proofs.plot.Given as goal
 
-abbrev pub invariant-loop-turns : goal.invariant-loop-turns
-invariant-loop-turns l = (length l.chunk ≡ 4096) × (length l.held ≡ 1024) × (length l.out ≡ 16448) × (length l.kept ≡ 448) × (length l.names ≡ 1024) × (l.p.windows ≤ 32)
-
-abbrev pub decreases-loop-turns : goal.decreases-loop-turns
-decreases-loop-turns l = l.turns
+abbrev pub invariant-loop : goal.invariant-loop
+invariant-loop l = l.p.windows ≤ 32

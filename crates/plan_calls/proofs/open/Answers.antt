@@ -5,7 +5,6 @@
 use mathlib.Core.Path.{◌≡◌, refl, sym, ap, ◌∙◌}
 use mathlib.Core.Bool.{true, false}
 use native.Mathlib.Omega.{arith}
-use borrow.Author.Rules.{rules}
 use Rattle.points.specs.Run.{run_of, in_range, has_starts, Opens}
 use Rattle.points.proofs.RunLaws.{starts_long, opens_within}
 use Rattle.state.specs.State.{plan_in, genuine}
@@ -66,11 +65,14 @@ six_starts-six-requires c =
     let k = known (goal.at.six_starts-six-requires c).Else-not-is_genuine in
     omega (arith, axes_few _ k, starts_long _ _ _ (has c))
 
+pub invariant_of-p : goal.invariant_of-p
+invariant_of-p c = record { fit = known_arrays _ (known (goal.at.invariant_of-p c).Else-not-is_genuine) }
+
 pub next_point-next-requires : goal.next_point-next-requires
 next_point-next-requires c =
     let k = known (goal.at.next_point-next-requires c).Else-not-is_genuine in
     let six = c.six_starts-six in
-    (known_arrays _ k, rw six.ensures (opens_within (opens (goal.at.next_point-next-requires c).Else-not-has_starts) (genuine_is _ k).valid))
+    rw six.ensures (opens_within (opens (goal.at.next_point-next-requires c).Else-not-has_starts) (genuine_is _ k).valid)
 
 pub with_run-t-requires : goal.with_run-t-requires
 with_run-t-requires c = known (goal.at.with_run-t-requires c).Else-not-is_genuine

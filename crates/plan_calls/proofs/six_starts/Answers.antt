@@ -2,7 +2,6 @@
 use mathlib.Core.Path.{refl, ap, ◌∙◌}
 use mathlib.Core.List.{List, ◌++◌}
 use Prim.Native.Nat.{ℕ}
-use borrow.Author.Rules.{rules}
 use lib.ListN.{length, replicate}
 use Rattle.numbers.specs.Listed.{padded}
 use Rattle.bits.proofs.OverwriteLaws.{over_start}

@@ -3,7 +3,6 @@
 -- where the m's are made, the state is genuine
 use mathlib.Core.Path.{◌≡◌, sym}
 use mathlib.Core.Bool.{true, false}
-use borrow.Author.Rules.{rules}
 use Rattle.state.specs.State.{plan_in, genuine}
 use Rattle.state.proofs.GenuineLaws.{genuine_is}
 use Rattle.calls.proofs.CaseLaws.{foreign_of, known_of, write_foreign, write_as_written}
@@ -23,7 +22,7 @@ returns-then-not-is_genuine c = let w = write_foreign _ _ (foreign c) in (sym w.
 pub write_plan-requires : goal.write_plan-requires
 write_plan-requires c =
     let s = c.args.s in
-    rw c.ms_of-ms.ensures (writable_in s (genuine_is s (known (goal.at.write_plan-requires c).Else-not-is_genuine)))
+    writable_in s (genuine_is s (known (goal.at.write_plan-requires c).Else-not-is_genuine))
 
 pub returns : goal.returns
 unfolding plan_in

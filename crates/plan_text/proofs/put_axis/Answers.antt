@@ -8,7 +8,7 @@ use Rattle.plan_text.proofs.WordLaws.{plain_text, given_text}
 use Rattle.plan_text.proofs.put_axis.Goals as goal
 
 pub degree-d-requires : goal.degree-d-requires
-degree-d-requires c = degree_low _ c.requires.4.high
+degree-d-requires c = degree_low _ c.requires.2.high
 
 pub returns-then-d-eq0 : goal.returns-then-d-eq0
 returns-then-d-eq0 c =
@@ -16,15 +16,14 @@ returns-then-d-eq0 c =
     (rw (← plain_text a.polynomials.now a.ms.now a.i (omega (arith, c.degree-d.ensures))) c.put_part.ensures.0, omega (arith, c.put_part.ensures.1))
 
 pub put_part-next-requires : goal.put_part-next-requires
-put_part-next-requires c = omega (arith, c.requires.4.high)
+put_part-next-requires c = omega (arith, c.requires.2.high)
 
 pub put_ms-requires : goal.put_ms-requires
 put_ms-requires c = (
   omega arith,
-  omega (arith, c.degree-d.ensures, degree_low _ c.requires.4.high),
-  omega arith,
+  omega (arith, c.degree-d.ensures, degree_low _ c.requires.2.high),
   omega (arith, c.put_part-next.ensures.0.size, c.put_part-next.ensures.1),
-  λ k h. c.requires.4.each k (omega (arith, c.degree-d.ensures)),
+  λ k h. c.requires.2.each k (omega (arith, c.degree-d.ensures)),
 )
 
 pub returns : goal.returns

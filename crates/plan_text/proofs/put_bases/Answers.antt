@@ -1,28 +1,32 @@
 -- The bases so far, in at most five bytes each. Assumes nothing.
 use mathlib.Core.Path.{◌≡◌}
 use native.Mathlib.Omega.{arith}
+use lib.ListN.{length, take}
+use lib.Seq.{get_or-take, length-take-le, take_all}
 use Rattle.plan_text.proofs.WordLaws.{bases_none, next_base}
 use Rattle.plan_text.proofs.put_bases.Goals as goal
 
-pub loop-i-init : goal.loop-i-init
-loop-i-init c =
+pub loop-base-init : goal.loop-base-init
+loop-base-init c =
     let a = c.args in
-    (omega arith, omega arith, bases_none a.out.now a.start a.bases.now)
+    (omega arith, bases_none a.out.now a.start (take a.axes a.bases.now))
 
 pub put_part-at-requires : goal.put_part-at-requires
 put_part-at-requires c =
-    omega (arith, c.requires.3 c.loop-i.i (omega arith), c.loop-i.invariant.2.size)
-
-pub loop-i-preserved : goal.loop-i-preserved
-loop-i-preserved c =
     let a = c.args in
-    (omega arith, omega (arith, c.put_part-at.ensures.1), next_base (omega arith) a.bases.now c.loop-i.i (omega arith) c.loop-i.invariant.2 c.put_part-at.ensures.0)
+    let i = c.loop-base.base-index in
+    let long : length (take a.axes a.bases.now) ≡ a.axes = length-take-le _ _ (omega arith) in
+    omega (arith, get_or-take a.axes a.bases.now i 0 (omega arith), c.requires.3 i (omega arith), c.loop-base.invariant.1.size)
 
-pub shape_of-out : goal.shape_of-out
-shape_of-out c = c.loop-i.invariant.2.size
+pub loop-base-preserved : goal.loop-base-preserved
+loop-base-preserved c =
+    let a = c.args in
+    (omega (arith, c.put_part-at.ensures.1), next_base (omega arith) (take a.axes a.bases.now) c.loop-base.base-index (omega arith) c.loop-base.invariant.1 c.put_part-at.ensures.0)
 
 pub returns : goal.returns
 returns c =
-    let l = c.loop-i in
-    let e : l.i ≡ c.args.axes = omega arith in
-    (rw e at l.invariant.2, omega arith)
+    let a = c.args in
+    let l = c.loop-base in
+    let long : length (take a.axes a.bases.now) ≡ a.axes = length-take-le _ _ (omega arith) in
+    let whole = take_all l.base-index (take a.axes a.bases.now) (omega arith) in
+    (rw whole at l.invariant.1, omega arith)

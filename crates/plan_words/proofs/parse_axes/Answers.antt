@@ -4,25 +4,24 @@ use Rattle.plan_words.proofs.ParseLaws.{first_place, next_place, here, no_axes, 
 use Rattle.plan_words.proofs.parse_axes.Goals as goal
 
 pub loop-i-init : goal.loop-i-init
-loop-i-init c = (omega arith, first_place _ _ (omega arith), no_axes _ _)
+loop-i-init c = (first_place _ _ (omega arith), no_axes _ _)
 
-pub returns-then-x-ne0 : goal.returns-then-x-ne0
-returns-then-x-ne0 c =
+pub returns-in-Err : goal.returns-in-Err
+returns-in-Err c =
     let l = c.loop-i in
-    rw c.report-fault.ensures
-    (axis_wrong l.invariant.2 c.parse_axis-x.ensures.0 _ _ _ _ (omega arith) (λ z. omega arith)
-    (rw (here l.invariant.1 c.find-w.ensures) at (c.parse_axis-x.ensures.1.refused (λ z. omega arith))))
+    let x = c.in-Err.x in
+    let w = c.in-Err.ensures in
+    rw c.report.ensures
+    (axis_wrong l.invariant.1 w.0 _ x.code x.place x.got (omega arith) w.1.1 (rw (here l.invariant.0 c.find-w.ensures) at w.1.0))
 
 pub loop-i-preserved : goal.loop-i-preserved
 loop-i-preserved c =
-    let l = c.loop-i in (
-      omega arith,
-      next_place l.invariant.1 c.find-w.ensures,
-      axis_next l.invariant.2 c.parse_axis-x.ensures.0 _ (omega arith) c.parse_axis-x.ensures.1.low
-          (rw (here l.invariant.1 c.find-w.ensures) at (c.parse_axis-x.ensures.1.spelled (omega arith))),
+    let l = c.loop-i in
+    let x = c.in-Ok.ensures in (
+      next_place l.invariant.0 c.find-w.ensures,
+      axis_next l.invariant.1 x.0 _ (omega arith) x.1.1 (rw (here l.invariant.0 c.find-w.ensures) at x.1.0),
     )
 
 pub returns : goal.returns
 returns c =
-    let l = c.loop-i in
-    rw c.report-fault-2.ensures (axes_all l.invariant.2 _ (omega arith))
+    let l = c.loop-i in axes_all l.invariant.1 _ (omega arith)

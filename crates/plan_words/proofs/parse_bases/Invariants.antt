@@ -1,10 +1,6 @@
 -- The words so far are bases. Assumes nothing.
-use Prim.Native.Nat.{◌-◌, ◌≤◌}
 use Rattle.plan_words.proofs.ParseLaws.{Place, BasesSoFar}
 use Rattle.plan_words.proofs.parse_bases.Given as goal
 
 abbrev pub invariant-loop-i : goal.invariant-loop-i
-invariant-loop-i l = (l.i ≤ l.n) × Place l.line l.from l.at l.i × BasesSoFar l.line l.from l.bases l.i
-
-abbrev pub decreases-loop-i : goal.decreases-loop-i
-decreases-loop-i l = l.n - l.i
+invariant-loop-i l = Place l.line l.from l.at l.i × BasesSoFar l.line l.from l.bases l.i

@@ -1,7 +1,6 @@
 -- `points::denominator` meets its contract: 2^32 on a Sobol axis, and that of the base on a Halton axis. Assumes nothing.
 use mathlib.Core.Path.{◌∙◌}
 use native.Mathlib.Omega.{arith}
-use borrow.Author.Rules.{rules}
 use Rattle.points.proofs.ArrayLaws.{denominator_by_two, denominator_by_base}
 use Rattle.points.proofs.denominator.Goals as goal
 

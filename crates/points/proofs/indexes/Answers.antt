@@ -1,9 +1,9 @@
 -- `points::indexes` meets its contract: the first i words are the indexes of the first i axes, and zeros follow. Assumes nothing.
 use mathlib.Core.Path.{◌≡◌, refl, ap, ◌∙◌}
 use mathlib.Core.List.{List}
-use Prim.Native.Nat.{ℕ, ◌+◌, ◌-◌, ◌≤◌}
+use Prim.Native.Nat.{ℕ, ◌+◌}
 use native.Mathlib.Omega.{arith}
-use lib.ListN.{length, get_or, set, length-set}
+use lib.ListN.{get_or, set, length-set}
 use Rattle.numbers.specs.Listed.{listed, padded}
 use Rattle.numbers.proofs.ListedLaws.{listed_store}
 use Rattle.points.specs.Run.{run_of}
@@ -12,22 +12,15 @@ use Rattle.points.proofs.indexes.Goals as goal
 
 pub loop-i-init : goal.loop-i-init
 unfolding listed padded
-loop-i-init c = (omega arith, refl, refl)
-
-pub bounds-starts-i : goal.bounds-starts-i
-bounds-starts-i c = omega (arith, c.requires.long)
-
-pub overflow_add-ns : goal.overflow_add-ns
-overflow_add-ns c = omega (arith, c.requires.at c.loop-i.i)
+loop-i-init c = (refl, refl)
 
 pub loop-i-preserved : goal.loop-i-preserved
 loop-i-preserved c =
     let a = c.args in
     let l = c.loop-i in
     let f : ℕ → ℕ = λ k. get_or a.starts.now k 0 + a.t in (
-      omega arith,
-      length-set l.ns l.i _ ∙ l.invariant.1,
-      ap (λ (x : List ℕ). set x l.i (f l.i)) l.invariant.2 ∙ listed_store 6 f l.i (f l.i) (omega arith) refl,
+      length-set l.ns l.i _ ∙ l.invariant.0,
+      ap (λ (x : List ℕ). set x l.i (f l.i)) l.invariant.1 ∙ listed_store 6 f l.i (f l.i) (omega arith) refl,
     )
 
 pub returns : goal.returns
@@ -35,4 +28,4 @@ returns c =
     let a = c.args in
     let l = c.loop-i in
     let e : l.i ≡ 6 = omega arith in
-    λ count. l.invariant.2 ∙ ap (λ (n : ℕ). padded 6 (listed (λ k. get_or a.starts.now k 0 + a.t) n)) e ∙ indexes_of_six (run_of a.starts.now count) a.t c.requires.long
+    λ count. l.invariant.1 ∙ ap (λ (n : ℕ). padded 6 (listed (λ k. get_or a.starts.now k 0 + a.t) n)) e ∙ indexes_of_six (run_of a.starts.now count) a.t c.requires.long

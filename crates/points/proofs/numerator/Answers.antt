@@ -12,7 +12,6 @@ returns-then-family-eq2 c =
     let a = c.args in
     c.jump.ensures ∙ numerator_by_part a.family a.bases.now a.directions.now a.n a.i (omega arith)
 
--- ?? slice_aggregate_jump : tie.Need-slice-aggregate-jump
 -- slice_aggregate_jump c = search rules
 
 pub jump-x-requires : goal.jump-x-requires

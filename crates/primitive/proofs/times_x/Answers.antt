@@ -1,7 +1,6 @@
 -- `primitive::times_x` meets its contract: the code's test is the definition's. Assumes nothing.
 use mathlib.Core.Path.{sym}
 use native.Mathlib.Omega.{arith}
-use borrow.Author.Rules.{rules}
 use Rattle.binary.proofs.PolynomialLaws.{times_x_less, times_x_more}
 use Rattle.primitive.proofs.times_x.Goals as goal
 

@@ -2,7 +2,6 @@
 use mathlib.Core.Path.{◌≡◌, sym, ap, ◌∙◌}
 use Prim.Native.Nat.{◌+◌, ◌*◌, ◌/◌, ◌^◌}
 use native.Mathlib.Omega.{arith}
-use borrow.Author.Rules.{rules}
 use Rattle.binary.specs.Power.{power_of_x}
 use Rattle.binary.proofs.PolynomialLaws.{power_of_x_lt}
 use Rattle.binary.proofs.PowerLaws.{power_next}

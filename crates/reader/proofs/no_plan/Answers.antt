@@ -5,4 +5,4 @@ use Rattle.reader.proofs.no_plan.Goals as goal
 
 pub returns : goal.returns
 unfolding answer_of
-returns c = refl
+returns c = rw c.number.ensures refl

@@ -66,13 +66,15 @@ sized c = let known : genuine c.args.s ≡ true = known_of _ _ c.is_genuine.ensu
 pub indexes-ns-requires : goal.indexes-ns-requires
 indexes-ns-requires c = let r = known_run _ (known (goal.at.indexes-ns-requires c).Else-not-is_genuine) in within_less r.0 r.1
 
+pub invariant_of-p : goal.invariant_of-p
+invariant_of-p c = record { fit = known_arrays _ (known (goal.at.invariant_of-p c).Else-not-is_genuine) }
+
 pub fill-requires : goal.fill-requires
 fill-requires c =
     let k = known (goal.at.fill-requires c).Else-not-is_genuine in
     let t = c.args.s in
     let f = sized (goal.at.fill-requires c).After-block_size-k in
     let ns = c.indexes-ns in (
-      known_arrays _ k,
       omega arith,
       rw (ns.ensures t.count) (within_on (known_run _ k).0 t.count t.taken f.0),
       omega (arith, f.1),
@@ -82,7 +84,7 @@ pub overflow_add-taken : goal.overflow_add-taken
 overflow_add-taken c = omega (arith, (sized (goal.at.overflow_add-taken c).After-block_size-k).0, (known_run _ (known (goal.at.overflow_add-taken c).Else-not-is_genuine)).0.at 0)
 
 pub next_point-next-requires : goal.next_point-next-requires
-next_point-next-requires c = let k = known (goal.at.next_point-next-requires c).Else-not-is_genuine in (known_arrays _ k, (known_run _ k).0)
+next_point-next-requires c = let k = known (goal.at.next_point-next-requires c).Else-not-is_genuine in (known_run _ k).0
 
 pub moved_on-t-requires : goal.moved_on-t-requires
 moved_on-t-requires c =

@@ -62,10 +62,13 @@ slice_bounds-store-end c = sym (front (goal.at.slice_bounds-store-end c).After-s
 pub store-requires : goal.store-requires
 store-requires c = omega (arith, front (goal.at.store-requires c).After-store-arg-1)
 
+pub invariant_of-p : goal.invariant_of-p
+invariant_of-p c = record { fit = known_arrays _ (known (goal.at.invariant_of-p c).Else-not-is_genuine) }
+
 pub point_after-next-requires : goal.point_after-next-requires
 point_after-next-requires c =
     let k = known (goal.at.point_after-next-requires c).Else-not-is_genuine in
-    (known_arrays _ k, (known_run _ k).0, omega arith, known_next _ k (omega arith))
+    ((known_run _ k).0, omega arith, known_next _ k (omega arith))
 
 pub overflow_add-s : goal.overflow_add-s
 overflow_add-s c = let k = known_run _ (known (goal.at.overflow_add-s c).Else-not-is_genuine) in omega (arith, k.0.at 0, k.1)

@@ -1,6 +1,5 @@
 -- `sobol::direction_numbers` meets its contract: the m's of the recurrence are odd and below their powers of two, as `scale` asks. Assumes nothing.
 use mathlib.Core.Path.{sym, ap, ◌∙◌, subst}
-use borrow.Author.Rules.{rules}
 use Rattle.sobol.specs.Directions.{scaled, directions, AllOddBelow}
 use Rattle.sobol.proofs.DirectionLaws.{m_list_odd_below}
 use Rattle.sobol.proofs.direction_numbers.Goals as goal

@@ -2,7 +2,6 @@
 use mathlib.Core.Path.{◌≡◌, ◌∙◌}
 use mathlib.Core.List.{List}
 use Prim.Native.Nat.{ℕ}
-use borrow.Author.Rules.{rules}
 use Rattle.binary.specs.Gray.{gray}
 use Rattle.binary.specs.Gf2.{combination}
 use Rattle.sobol.specs.Stepping.{stepped, jumped}

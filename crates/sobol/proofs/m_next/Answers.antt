@@ -1,6 +1,5 @@
 -- `sobol::m_next` meets its contract, by the three cases of the definition: given, degree 0, and the recurrence. Assumes nothing.
 use mathlib.Core.Path.{sym, ◌∙◌}
-use borrow.Author.Rules.{rules}
 use Rattle.sobol.proofs.DirectionLaws.{m_next_given, m_next_rule, m_rule_none}
 use Rattle.sobol.proofs.m_next.Goals as goal
 

@@ -1,7 +1,6 @@
 -- `sobol_marks::sobol_marks` meets its contract: every point is below 2^32, and else its parts follow one another. Assumes nothing.
 use Prim.Native.Nat.{◌+◌}
 use native.Mathlib.Omega.{arith}
-use borrow.Author.Rules.{rules}
 use Rattle.sobol_blocks.specs.Filling.{sobol_from}
 use Rattle.marks.proofs.MarkLaws.{marked_all}
 use Rattle.sobol_marks.proofs.sobol_marks.Goals as goal

@@ -3,6 +3,7 @@ use mathlib.Core.Path.{sym, ap, ◌∙◌}
 use Prim.Native.Nat.{◌+◌, ◌*◌, ◌≤◌}
 use native.Mathlib.Omega.{arith}
 use lib.ListN.{length}
+use Rattle.std.proofs.lemmas.Result.{err_from_is_err_and}
 use Rattle.plan.specs.Reading.{polynomial_of}
 use Rattle.plan.proofs.PartLaws.{long_field}
 use Rattle.sobol_reader.proofs.AxisLaws.{DegreeRead, PolynomialRead, polynomial_fits, axis_short, axis_high, axis_cut, axis_unfit, axis_twin, axis_stop, axis_end}
@@ -35,31 +36,21 @@ polynomial c = let degree : let a = c.args in DegreeRead a.bytes.now a.start c.f
       value = c.polynomial-p.ensures ∙ ap (polynomial_of c.field-d.result) c.field.ensures.0;
     }
 
-pub no_axis-requires : goal.no_axis-requires
-no_axis-requires c = tt
-
 pub returns-then-is_short : goal.returns-then-is_short
-returns-then-is_short c = axis_short _ _ _ _ c.is_short.ensures c.if-is_short.true _ _ _ _ _ c.no_axis.ensures
+returns-then-is_short c = axis_short _ _ _ _ c.is_short.ensures c.if-is_short.true
 
 pub field-d-requires : goal.field-d-requires
 field-d-requires c = omega (arith, after_degree c)
 
-pub no_axis-requires-then-d-gt12 : goal.no_axis-requires-then-d-gt12
-no_axis-requires-then-d-gt12 c = tt
-
 pub returns-then-d-gt12 : goal.returns-then-d-gt12
-returns-then-d-gt12 c = axis_high _ _ _ _ (degree (goal.at.returns-then-d-gt12 c).After-field-d) (omega arith) _ _ _ _ _ c.no_axis-then-d-gt12.ensures
+returns-then-d-gt12 c = axis_high _ _ _ _ (degree (goal.at.returns-then-d-gt12 c).After-field-d) (omega arith)
 
 pub is_short-requires-2 : goal.is_short-requires-2
 is_short-requires-2 c = omega (arith, after_degree (goal.at.is_short-requires-2 c).Else-is_short)
 
-pub no_axis-requires-then-is_short-2 : goal.no_axis-requires-then-is_short-2
-no_axis-requires-then-is_short-2 c = tt
-
 pub returns-then-is_short-2 : goal.returns-then-is_short-2
 returns-then-is_short-2 c =
     axis_cut _ _ _ _ (degree (goal.at.returns-then-is_short-2 c).After-field-d) (omega arith) c.coefficient_count-w.ensures c.is_short-2.ensures c.if-is_short-2.true
-    _ _ _ _ _ c.no_axis-then-is_short-2.ensures
 
 pub field-requires : goal.field-requires
 field-requires c = omega (arith, after_coefficients c)
@@ -67,33 +58,24 @@ field-requires c = omega (arith, after_coefficients c)
 pub not_primitive-requires : goal.not_primitive-requires
 not_primitive-requires c = (omega arith, polynomial_fits (polynomial c))
 
-pub no_axis-requires-then-not_primitive : goal.no_axis-requires-then-not_primitive
-no_axis-requires-then-not_primitive c = tt
-
 pub returns-then-not_primitive : goal.returns-then-not_primitive
 returns-then-not_primitive c =
-    axis_unfit _ _ _ _ (polynomial (goal.at.returns-then-not_primitive c).After-polynomial-p) c.not_primitive.ensures c.if-not_primitive.true _ _ _ _ _ (omega arith, omega arith, omega arith, c.no_axis-then-not_primitive.ensures.3)
-
-pub no_axis-requires-then-is_repeated : goal.no_axis-requires-then-is_repeated
-no_axis-requires-then-is_repeated c = tt
+    axis_unfit _ _ _ _ (polynomial (goal.at.returns-then-not_primitive c).After-polynomial-p) c.not_primitive.ensures c.if-not_primitive.true
 
 pub returns-then-is_repeated : goal.returns-then-is_repeated
 returns-then-is_repeated c =
     axis_twin _ _ _ _ (polynomial (goal.at.returns-then-is_repeated c).After-polynomial-p) c.not_primitive.ensures c.if-not_primitive.false c.is_repeated.ensures c.if-is_repeated.true
-    _ _ _ _ _ (omega arith, omega arith, omega arith, c.no_axis-then-is_repeated.ensures.3)
 
-pub read_ms-m-requires : goal.read_ms-m-requires
-read_ms-m-requires c = omega (arith, after_coefficients (goal.at.read_ms-m-requires c).Else-is_short-2)
+pub read_ms-requires : goal.read_ms-requires
+read_ms-requires c = omega (arith, after_coefficients (goal.at.read_ms-requires c).Else-is_short-2)
 
-pub no_axis-requires-then-m-ne0 : goal.no_axis-requires-then-m-ne0
-no_axis-requires-then-m-ne0 c = tt
-
-pub returns-then-m-ne0 : goal.returns-then-m-ne0
-returns-then-m-ne0 c =
-    axis_stop _ _ _ _ (polynomial (goal.at.returns-then-m-ne0 c).After-polynomial-p) c.not_primitive.ensures c.if-not_primitive.false c.is_repeated.ensures c.if-is_repeated.false
-    c.read_ms-m.ensures (λ z. omega arith) _ _ _ _ _ c.no_axis-then-m-ne0.ensures
+pub returns-in_err-at : goal.returns-in_err-at
+returns-in_err-at c =
+    let p = err_from_is_err_and c.from_residual.result c.from_residual.ensures.1 in
+    rw (p.1, p.2) (axis_stop _ _ _ _ (polynomial (goal.at.returns-in_err-at c).After-polynomial-p) c.not_primitive.ensures c.if-not_primitive.false c.is_repeated.ensures c.if-is_repeated.false
+    c.in_err-at.ensures)
 
 pub returns : goal.returns
 returns c =
     axis_end _ _ _ _ (polynomial (goal.at.returns c).After-polynomial-p) c.not_primitive.ensures c.if-not_primitive.false c.is_repeated.ensures c.if-is_repeated.false
-    c.read_ms-m.ensures (omega arith)
+    c.in_ok-at.ensures

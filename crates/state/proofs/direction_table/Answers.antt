@@ -2,10 +2,10 @@
 -- follow. Assumes nothing.
 use mathlib.Core.Path.{◌≡◌, ap, ◌∙◌}
 use mathlib.Core.List.{List}
-use Prim.Native.Nat.{ℕ, ◌-◌, ◌*◌, ◌≤◌}
+use Prim.Native.Nat.{ℕ, ◌*◌}
 use native.Mathlib.Omega.{arith}
 use borrow.Author.Rules.{rules}
-use lib.ListN.{length, get_or}
+use lib.ListN.{get_or}
 use Rattle.sobol.specs.Directions.{directions}
 use Rattle.bits.specs.Stream.{overwrite}
 use Rattle.plan.specs.Answer.{axis_at}
@@ -17,7 +17,7 @@ use Rattle.state.proofs.direction_table.Goals.{After-direction_numbers-v, In-loo
 pub loop-i-init : goal.loop-i-init
 loop-i-init c =
     let a = c.args in
-    (omega arith, search rules, table_none a.polynomials.now a.ms.now)
+    (search rules, table_none a.polynomials.now a.ms.now)
 
 -- the turn's axis
 turn : (c : In-loop-i)
@@ -51,9 +51,8 @@ loop-i-preserved c =
     let a = c.args in
     let l = c.loop-i in
     let v = c.direction_numbers-v.result in (
-      omega arith,
       search rules,
-      c.store.ensures ∙ ap (λ (t : List ℕ). overwrite t (32 * l.i) v) l.invariant.2
+      c.store.ensures ∙ ap (λ (t : List ℕ). overwrite t (32 * l.i) v) l.invariant.1
           ∙ table_next a.polynomials.now a.ms.now l.i v (omega arith) (drawn (goal.at.loop-i-preserved c).After-direction_numbers-v),
     )
 
@@ -62,4 +61,4 @@ returns c =
     let a = c.args in
     let l = c.loop-i in
     let e : l.i ≡ a.axes = omega arith in
-    l.invariant.2 ∙ ap (table_at a.polynomials.now a.ms.now) e
+    l.invariant.1 ∙ ap (table_at a.polynomials.now a.ms.now) e

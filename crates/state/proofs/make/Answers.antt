@@ -1,7 +1,6 @@
 -- `state::make` meets its contract: the answer's arrays and its direction numbers are the plan's, and no point is next. Assumes nothing.
 use mathlib.Core.Path.{refl}
 use native.Mathlib.Omega.{arith}
-use borrow.Author.Rules.{rules}
 use Rattle.plan.specs.Answer.{plan_answered}
 use Rattle.points.specs.Run.{one_start}
 use Rattle.points.proofs.PointLaws.{axis_count_lem}

@@ -8,7 +8,7 @@ use Rattle.state.proofs.next_point.Goals as goal
 
 pub point-requires : goal.point-requires
 point-requires c =
-    (c.requires.0, within_less c.requires.1 (omega arith))
+    within_less c.requires (omega arith)
 
 pub returns-then-taken-count : goal.returns-then-taken-count
 unfolding index_at

@@ -11,12 +11,12 @@ use Rattle.points.proofs.WordLaws.{point_at_same}
 use Rattle.state.proofs.point_after.Goals as goal
 
 pub overflow_add-taken : goal.overflow_add-taken
-overflow_add-taken c = omega (arith, c.requires.1.at 0)
+overflow_add-taken c = omega (arith, c.requires.0.at 0)
 
 pub advance-requires : goal.advance-requires
 unfolding index_at
 advance-requires c =
-    (c.requires.0, within_less c.requires.1 (omega arith), c.requires.3)
+    (within_less c.requires.0 (omega arith), c.requires.2)
 
 pub returns-then-taken-count : goal.returns-then-taken-count
 unfolding index_at

@@ -7,4 +7,4 @@ use Rattle.state_words.proofs.state_of.Goals as goal
 pub returns : goal.returns
 unfolding from_words
 returns c =
-    rw (c.six-4.ensures, c.six-3.ensures, c.table.ensures, c.six-2.ensures, c.six.ensures) refl
+    rw (c.part-5.ensures, c.part-4.ensures, c.part-3.ensures, c.part-2.ensures, c.part.ensures) refl

@@ -2,7 +2,6 @@
 use mathlib.Core.Path.{◌∙◌}
 use native.Mathlib.Omega.{arith}
 use Rattle.strip_count.proofs.RunLaws.{run_steps, run_held, run_counted}
-use borrow.Author.Rules.{rules}
 use Rattle.strip_count.proofs.count_strips.Goals as goal
 
 pub count_class-requires : goal.count_class-requires

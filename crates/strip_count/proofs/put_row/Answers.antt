@@ -2,7 +2,6 @@
 use native.Mathlib.Omega.{arith}
 use lib.ListN.{length-set}
 use Rattle.strip_count.proofs.RowLaws.{row_put}
-use borrow.Author.Rules.{rules}
 use Rattle.strip_count.proofs.put_row.Goals as goal
 
 pub bounds-rows-i-2 : goal.bounds-rows-i-2

@@ -1,11 +1,7 @@
 -- `tables::first_points` meets its contract: the entries up to d are points. Assumes nothing.
-use mathlib.Core.Path.{◌≡◌, refl, ◌∙◌}
-use Prim.Native.Nat.{◌-◌, ◌*◌, ◌^◌, ◌≤◌, ◌<◌}
+use Prim.Native.Nat.{◌*◌, ◌^◌, ◌<◌}
 use native.Mathlib.Omega.{arith}
-use lib.ListN.{length, length-set}
-use Rattle.numbers.specs.Listed.{Begins}
-use Rattle.numbers.proofs.ListedLaws.{begins_none, begins_more, begins_less}
-use Rattle.halton.specs.Axis.{numerator}
+use Rattle.numbers.proofs.ListedLaws.{begins_more, begins_less}
 use Rattle.halton.specs.Images.{image_in}
 use Rattle.tables.proofs.TableLaws.{point_below, first_digit, table_first}
 use Rattle.tables.proofs.first_points.Goals as goal
@@ -18,25 +14,16 @@ small : (c : After-shared_slice_known-1) →
 small c =
     rw (first_digit c.requires.3 (omega arith) c.args.w c.loop-d.d c.requires.5 (omega arith)) (point_below c.requires.3 (omega arith) (omega arith) _)
 
-pub loop-d-init : goal.loop-d-init
-loop-d-init c = (omega arith, begins_none _ _, refl)
-
-pub overflow_cast-t : goal.overflow_cast-t
-overflow_cast-t c = omega (arith, c.shared_slice_known-1.given c.loop-d.d)
-
 pub overflow_mul-t : goal.overflow_mul-t
 overflow_mul-t c = omega (arith, small c)
 
 pub loop-d-preserved : goal.loop-d-preserved
 loop-d-preserved c =
-    let l = c.loop-d in (
-      omega arith,
-      begins_more l.invariant.1 (omega (arith, l.invariant.2)) (first_digit c.requires.3 (omega arith) c.args.w l.d c.requires.5 (omega arith)),
-      length-set l.t l.d _ ∙ l.invariant.2,
-    )
+    let l = c.loop-d in
+    begins_more l.invariant (omega arith) (first_digit c.requires.3 (omega arith) c.args.w l.d c.requires.5 (omega arith))
 
 pub returns : goal.returns
 returns c =
     let a = c.args in
     let l = c.loop-d in
-    (table_first (begins_less l.invariant.1 a.b (omega arith)), l.invariant.2)
+    (table_first (begins_less l.invariant a.b (omega arith)), omega arith)

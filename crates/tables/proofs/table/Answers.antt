@@ -1,13 +1,9 @@
 -- `tables::table` meets its contract: the weight of the last digit times the number of points stays the denominator. Assumes nothing.
 use mathlib.Core.Path.{◌≡◌, refl, sym, ap, ◌∙◌}
-use Prim.Native.Nat.{ℕ, ◌-◌, ◌*◌, ◌/◌, ◌≤◌}
+use Prim.Native.Nat.{ℕ, ◌*◌, ◌/◌}
 use native.Mathlib.Omega.{arith}
-use lib.ListN.{length}
 use Rattle.numbers.specs.Depth.{denominator}
 use Rattle.numbers.proofs.DepthLaws.{weight_times}
-use Rattle.halton.specs.Axis.{numerator}
-use Rattle.halton.specs.Images.{image_in}
-use Rattle.columns.specs.Tiles.{Table}
 use Rattle.columns.proofs.TileLaws.{table_pos}
 use Rattle.tables.proofs.TableLaws.{table_weight}
 use native.Mathlib.Nat.{mul-le-mul, mul-le-mul_left, mul_assoc, mul_comm}

@@ -1,5 +1,4 @@
 -- A number below 2^40 has at most thirteen decimal digits. Assumes nothing.
-use borrow.Author.Rules.{rules}
 use native.Mathlib.Omega.{arith}
 use Rattle.text.proofs.DecimalLaws.{places_few}
 use Rattle.text.proofs.digit_places.Goals as goal

@@ -3,7 +3,6 @@ use Prim.Native.Nat.{◌/◌, ◌%◌, ◌^◌}
 use native.Mathlib.Nat.{div-mul-le_self, mul-le-mul_left}
 use native.Mathlib.Omega.{arith}
 use Rattle.volumes.proofs.VolumeLaws.{cut_parts, cut_least, rest_low}
-use borrow.Author.Rules.{rules}
 use Rattle.volumes.proofs.cut.Goals as goal
 
 pub overflow_mul-result : goal.overflow_mul-result

@@ -1,15 +1,14 @@
 -- After i turns v is the product of i cuts. Assumes nothing.
 use mathlib.Core.Path.{◌≡◌, sym, ap, ◌∙◌}
-use Prim.Native.Nat.{ℕ, ◌+◌, ◌*◌, ◌-◌, ◌/◌, ◌^◌, ◌≤◌}
+use Prim.Native.Nat.{ℕ, ◌+◌, ◌*◌, ◌/◌, ◌^◌}
 use native.Mathlib.Omega.{arith}
 use Rattle.window.proofs.RangeLaws.{window_room}
 use Rattle.volumes.specs.Volume.{u_at, q_at, finely_to, volume_of}
 use Rattle.volumes.proofs.VolumeLaws.{finely_none, finely_next, cut_fine}
-use borrow.Author.Rules.{rules}
 use Rattle.volumes.proofs.volume.Goals as goal
 
 pub loop-i-init : goal.loop-i-init
-loop-i-init c = (sym (finely_none _), omega arith, omega arith)
+loop-i-init c = (sym (finely_none _), omega arith)
 
 pub bounds-w-i : goal.bounds-w-i
 bounds-w-i c =
@@ -27,7 +26,7 @@ cut-v-requires c =
 pub loop-i-preserved : goal.loop-i-preserved
 loop-i-preserved c =
     let a = c.args in
-    (c.cut-v.ensures.0 ∙ ap (λ (v : ℕ). v * u_at a.w.now c.loop-i.i / q_at a.w.now c.loop-i.i) c.loop-i.invariant.0 ∙ sym (finely_next a.w.now c.loop-i.i), omega arith, omega arith)
+    (c.cut-v.ensures.0 ∙ ap (λ (v : ℕ). v * u_at a.w.now c.loop-i.i / q_at a.w.now c.loop-i.i) c.loop-i.invariant.0 ∙ sym (finely_next a.w.now c.loop-i.i), omega arith)
 
 pub returns : goal.returns
 unfolding volume_of

@@ -1,5 +1,4 @@
 -- Fewer than 72 bytes are their own first 72. Assumes nothing.
-use borrow.Author.Rules.{rules}
 use mathlib.Core.Path.{◌∙◌, sym}
 use native.Mathlib.Omega.{arith}
 use lib.Seq.{take-length, take_all}

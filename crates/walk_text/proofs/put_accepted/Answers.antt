@@ -1,5 +1,4 @@
 -- The state made of the plan holds its arrays; the head line and the four lines are put one after another. Assumes nothing.
-use borrow.Author.Rules.{rules}
 use Prim.Native.Nat.{◌≤◌}
 use native.Mathlib.Omega.{arith}
 use lib.ListN.{length}
@@ -17,15 +16,15 @@ arrays c = made_arrays _ c.requires.0.valid _ 0 c.make-s.result c.make-s.ensures
 pub make-s-requires : goal.make-s-requires
 make-s-requires c = c.requires.0
 
--- ?? slice_aggregate_put_head : tie.Need-slice-aggregate-put-head
--- slice_aggregate_put_head c = search rules
+pub invariant_of-axes : goal.invariant_of-axes
+invariant_of-axes c = record { fit = arrays (goal.at.invariant_of-axes c).After-make-s }
 
 pub put_head-after_head-requires : goal.put_head-after_head-requires
 put_head-after_head-requires c = omega (arith, arrays (goal.at.put_head-after_head-requires c).After-make-s)
 
 pub put_lines-requires : goal.put_lines-requires
 put_lines-requires c =
-    (arrays (goal.at.put_lines-requires c).After-make-s, omega arith)
+    omega arith
 
 pub returns : goal.returns
 unfolding text_of

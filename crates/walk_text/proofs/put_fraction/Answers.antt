@@ -1,5 +1,4 @@
 -- The space, the numerator, the slash and the denominator are put one after another. Assumes nothing.
-use borrow.Author.Rules.{rules}
 use Prim.Native.Nat.{◌≤◌}
 use native.Mathlib.Omega.{arith}
 use lib.ListN.{length}

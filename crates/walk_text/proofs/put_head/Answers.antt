@@ -1,5 +1,4 @@
 -- The word, the number and the end of the line are put one after another. Assumes nothing.
-use borrow.Author.Rules.{rules}
 use Prim.Native.Nat.{◌≤◌}
 use native.Mathlib.Omega.{arith}
 use lib.ListN.{length}

@@ -1,14 +1,10 @@
 -- The index, the fractions and the end of the line are put one after another. Assumes nothing.
-use borrow.Author.Rules.{rules}
 use Prim.Native.Nat.{◌≤◌}
 use native.Mathlib.Omega.{arith}
 use lib.ListN.{length}
 use Rattle.walk_text.specs.Parts.{line_at}
 use Rattle.text.proofs.PutLaws.{put_then}
 use Rattle.walk_text.proofs.put_line.Goals as goal
-
--- ?? slice_aggregate_put : tie.Need-slice-aggregate-put
--- slice_aggregate_put c = search rules
 
 pub returns : goal.returns
 unfolding line_at

@@ -1,6 +1,5 @@
 -- The count that was answered fits a row. Assumes nothing.
 use native.Mathlib.Omega.{arith}
-use borrow.Author.Rules.{rules}
 use Rattle.weights.proofs.count.Goals as goal
 
 pub volume-requires : goal.volume-requires

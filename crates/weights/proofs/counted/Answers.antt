@@ -1,5 +1,4 @@
 -- Each of the two counts is answered for a window that fits a row. Assumes nothing.
-use borrow.Author.Rules.{rules}
 use Rattle.weights.proofs.CountLaws.{run_answered, set_answered}
 use Rattle.weights.proofs.counted.Goals as goal
 

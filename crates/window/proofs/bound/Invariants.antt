@@ -9,7 +9,4 @@ use Rattle.window.proofs.RangeLaws.{bound_over_none, bound_over_more, bound_over
 use Rattle.window.proofs.bound.Given as goal
 
 abbrev pub invariant-loop-i : goal.invariant-loop-i
-invariant-loop-i l = (l.i ≤ l.axes) × (l.p ≡ bound (base_at l.bases) l.i l.n)
-
-abbrev pub decreases-loop-i : goal.decreases-loop-i
-decreases-loop-i l = l.axes - l.i
+invariant-loop-i l = l.product ≡ bound (base_at l.p.bases.now) l.i l.n

@@ -2,7 +2,6 @@
 use native.Mathlib.Omega.{arith}
 use mathlib.Core.Path.{ap}
 use Prim.Native.Nat.{ℕ, ◌+◌, ◌-◌, ◌*◌, ◌≤◌}
-use borrow.Author.Rules.{rules}
 use Rattle.discrepancy.specs.Bound.{factor}
 use Rattle.discrepancy.proofs.FitLaws.{factor_le}
 use Rattle.window.proofs.bound_factor.Goals as goal

@@ -44,17 +44,20 @@ returns-then-not-is_window c = c.refused-then-not-is_window.ensures ∙ sym (cou
 pub indexes-ns-requires : goal.indexes-ns-requires
 indexes-ns-requires c = within_less (known_run _ (known (goal.at.indexes-ns-requires c).Else-not-is_genuine)).0 (omega arith)
 
+pub invariant_of-p : goal.invariant_of-p
+invariant_of-p c = record { fit = known_arrays _ (known (goal.at.invariant_of-p c).Else-not-is_genuine) }
+
 pub inside_by-inside-requires : goal.inside_by-inside-requires
 inside_by-inside-requires c =
     let k = known (goal.at.inside_by-inside-requires c).Else-not-is_genuine in
     let t = c.args.s in
     let ns = c.indexes-ns in
-    (known_arrays _ k, rw (ns.ensures t.count) (within_on (known_run _ k).0 t.count 0 (omega arith)), window_room _ _ (fits (goal.at.inside_by-inside-requires c).Else-not-is_window))
+    (rw (ns.ensures t.count) (within_on (known_run _ k).0 t.count 0 (omega arith)), window_room _ _ (fits (goal.at.inside_by-inside-requires c).Else-not-is_window))
 
 pub bound-bound-requires : goal.bound-bound-requires
 bound-bound-requires c =
     let k = known (goal.at.bound-bound-requires c).Else-not-is_genuine in
-    (known_arrays _ k, omega (arith, (known_run _ k).0.at 0))
+    omega (arith, (known_run _ k).0.at 0)
 
 answer : {i i' b b' : ℕ} → i ≡ i' → b ≡ b' → counted 0 i b ≡ counted 0 i' b'
 answer e f = λ j. counted 0 (e j) (f j)

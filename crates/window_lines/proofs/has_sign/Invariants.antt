@@ -1,5 +1,5 @@
 -- Each word ends after the last. Assumes nothing.
-use Rattle.std.proofs.Common.{◌-◌, ◌≤◌, length, rules}
+use Rattle.std.proofs.Common.{◌-◌, ◌≤◌, length}
 use Rattle.window_lines.proofs.has_sign.Given as goal
 
 abbrev pub invariant-loop-at : goal.invariant-loop-at

@@ -1,5 +1,4 @@
 -- Each range of bytes has its value. Assumes nothing.
-use borrow.Author.Rules.{rules}
 use native.Mathlib.Omega.{arith}
 use Rattle.words.proofs.HexLaws.{hex_before, hex_decimal, hex_between, hex_upper, hex_middle, hex_lower, hex_after}
 use Rattle.words.proofs.hex_digit.Goals as goal

@@ -1,33 +1,27 @@
 -- The first place is the first from the byte at hand on. Assumes nothing.
-use borrow.Author.Rules.{rules}
 use borrow.Author.Tests.{lt-ltb, le-ltb}
 use mathlib.Core.Path.{◌≡◌}
 use mathlib.Core.Bool.{true, false}
-use Prim.Native.Nat.{◌+◌, ◌-◌, ◌≤◌}
 use native.Mathlib.Omega.{arith}
-use lib.ListN.{length, drop, get_or}
-use Rattle.words.specs.Word.{leading}
+use lib.ListN.{get_or}
 use Rattle.words.specs.Hexadecimal.{hex_value, is_hex}
 use Rattle.words.proofs.WordLaws.{leading_more, leading_stop, leading_end}
 use Rattle.words.proofs.not_hex.Goals as goal
-
-pub loop-i-init : goal.loop-i-init
-loop-i-init c = (omega arith, omega arith)
 
 pub returns-then-hex_digit-gt15 : goal.returns-then-hex_digit-gt15
 unfolding is_hex
 returns-then-hex_digit-gt15 c =
     let w = c.args.word.now in
     let other : is_hex (get_or w c.loop-i.i 0) ≡ false = le-ltb (hex_value (get_or w c.loop-i.i 0)) 16 (omega (arith, c.hex_digit.ensures)) in
-    omega (arith, c.loop-i.invariant.1, leading_stop w c.loop-i.i (omega arith) is_hex other)
+    omega (arith, c.loop-i.invariant, leading_stop w c.loop-i.i (omega arith) is_hex other)
 
 pub loop-i-preserved : goal.loop-i-preserved
 unfolding is_hex
 loop-i-preserved c =
     let w = c.args.word.now in
     let same : is_hex (get_or w c.loop-i.i 0) ≡ true = lt-ltb (hex_value (get_or w c.loop-i.i 0)) 16 (omega (arith, c.hex_digit.ensures)) in
-    (omega arith, omega (arith, c.loop-i.invariant.1, leading_more w c.loop-i.i (omega arith) is_hex same))
+    omega (arith, c.loop-i.invariant, leading_more w c.loop-i.i (omega arith) is_hex same)
 
 pub returns : goal.returns
 returns c =
-    omega (arith, c.loop-i.invariant.1, leading_end c.args.word.now c.loop-i.i (omega arith) is_hex)
+    omega (arith, c.loop-i.invariant, leading_end c.args.word.now c.loop-i.i (omega arith) is_hex)

@@ -3,7 +3,6 @@ use mathlib.Core.Path.{refl, ◌∙◌, ap}
 use Prim.Native.Nat.{ℕ}
 use native.Mathlib.Omega.{arith}
 use Rattle.bits.specs.Stream.{overwrite}
-use borrow.Author.Rules.{rules}
 use Rattle.lines.proofs.output.put.Goals as goal
 
 pub returns-then-text-out : goal.returns-then-text-out
@@ -11,15 +10,15 @@ returns-then-text-out c =
     let p = c.put.ensures in
     let a = c.args in
     record {
-      bytes = λ h. p.bytes ∙ ap (λ (at : ℕ). overwrite a.out.now at a.text.now) (omega (arith, c.least-used.ensures));
-      used = λ h. omega (arith, c.least-used.ensures, p.after);
+      bytes = λ h. p.bytes ∙ ap (λ (at : ℕ). overwrite a.out.now at a.text.now) (omega (arith, c.min-used.ensures));
+      used = λ h. omega (arith, c.min-used.ensures, p.after);
       whole = λ h. refl;
-      fits = omega (arith, c.least-used.ensures, p.after);
+      fits = omega (arith, c.min-used.ensures, p.after);
     }
 
 pub returns-then-out-text : goal.returns-then-out-text
 returns-then-out-text c =
-    let full = c.least-used.ensures in
+    let full = c.min-used.ensures in
     record {
       bytes = λ h. absurd (omega (arith, full));
       used = λ h. absurd (omega (arith, full));
@@ -30,7 +29,7 @@ returns-then-out-text c =
 pub returns : goal.returns
 returns c =
     let p = c.put-2.ensures in
-    let full = c.least-used.ensures in
+    let full = c.min-used.ensures in
     record {
       bytes = λ h. absurd (omega (arith, full));
       used = λ h. absurd (omega (arith, full));

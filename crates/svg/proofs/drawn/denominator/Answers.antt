@@ -1,5 +1,5 @@
 -- A base's denominator is below 2^40. Assumes nothing.
-use Rattle.std.proofs.Common.{arith, rules}
+use Rattle.std.proofs.Common.{arith}
 use Rattle.numbers.proofs.DepthLaws.{denominator_lt}
 use Rattle.svg.proofs.drawn.denominator.Goals as goal
 

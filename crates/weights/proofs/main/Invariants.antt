@@ -1,9 +1,0 @@
--- The buffers keep their lengths, and the turns run down.
-use Rattle.std.proofs.Common.{◌≡◌, length}
-use Rattle.weights.proofs.main.Given as goal
-
-abbrev pub invariant-loop-turns : goal.invariant-loop-turns
-invariant-loop-turns l = (length l.chunk ≡ 4096) × (length l.kept ≡ 1024) × (length l.out ≡ 16384)
-
-abbrev pub decreases-loop-turns : goal.decreases-loop-turns
-decreases-loop-turns l = l.turns
