@@ -9,7 +9,7 @@ mod plans;
 mod report;
 mod run;
 
-ghost use Rattle.std.specs.Prelude.{◌≤◌, length};
+ghost use Rattle.std.specs.Prelude.{◌≡◌, false, ◌≤◌, MatchOption, length};
 
 pub use axes::{Axes, axes_line};
 pub use day::day_line;
@@ -53,7 +53,9 @@ pub fn new(is_picture: bool) -> Job {
 }
 
 // Whether a day set is in force.
-pub fn is_day(j: Job) -> bool {
+pub fn is_day(j: Job) -> bool
+    ensures { MatchOption j.run (result ≡ false) (λ r. result ≡ r.is_day) }
+{
     match j.run {
         Some(run) => run.is_day,
         None => false,
