@@ -90,6 +90,13 @@ fn one_step(l: &[u8], rows: &[u64], s: usize, v: u64, u: u64, x: u64, o: u64) ->
 
 // ---- a class that splits
 
+// How many of the `b` classes of a class of `k` steps have a step.
+fn class_number(b: u64, k: u64) -> u64
+    ensures { (result ≤ b) × (result ≤ k) × (result < k → result ≡ b) }
+{
+    k.min(b)
+}
+
 // How many steps class `i` has, where each of the first `more` has one more than `low`.
 fn class_size(low: u64, more: u64, i: u64) -> u64
     requires { low < 2 ^ 33 }
@@ -211,7 +218,7 @@ fn split_class(
     let first = first_whole(from, left);
     let low = k / b;
     let more = k % b;
-    let end = k.min(b);
+    let end = class_number(b, k);
     let mut e = x % b;
     let mut n = 0;
     for i in 0..end {

@@ -16,11 +16,12 @@ fn put_point(out: &mut [u8], a: PlanRead, n: u64)
     requires { Accepted a × (n < 2 ^ 32) × (8 * a.axes ≤ length out.old) }
     ensures { out.new ≡ word_bytes (point_of (plan_answered a) n) ++ drop (8 * a.axes) out.old }
 {
+    let bases = a.bases;
     let directions = state::plan_directions(a);
     let p = PlanAxes {
         family: a.family,
         axes: a.axes,
-        bases: &a.bases,
+        bases: &bases,
         directions: &directions,
     };
     let zeros = [0u64; 6];
@@ -62,11 +63,12 @@ fn put_count(out: &mut [u8], a: PlanRead, start: u64, count: u64, window: &[u8])
     requires { Accepted a × (start_in_range start count ≡ true) × (is_window_bytes window.now a.axes ≡ true) × (16 ≤ length out.old) }
     ensures { out.new ≡ word_bytes (answers_of (plan_answered a) start count window.now) ++ drop 16 out.old }
 {
+    let bases = a.bases;
     let directions = state::plan_directions(a);
     let p = PlanAxes {
         family: a.family,
         axes: a.axes,
-        bases: &a.bases,
+        bases: &bases,
         directions: &directions,
     };
     let w = big_endian::window_numbers(window, a.axes);

@@ -1,5 +1,6 @@
 // A line `run START .. COUNT`, and the two numbers of a line.
-ghost use Rattle.std.specs.Prelude.{◌≡◌, ◌≤◌, IfOk, length};
+ghost use Rattle.std.specs.Prelude.{◌≡◌, ◌≢◌, ℕ, Ok, ◌≤◌, IfOk, MatchResult, length};
+ghost use Rattle.words.specs.Decimal.{number_of};
 
 use crate::{Job, end, error, fail, say, say_between};
 use words::NumberError;
@@ -20,7 +21,9 @@ fn expected(j: Job, out: &mut [u8], name: &[u8]) -> Job {
 }
 
 // The number that a word spells, or the job with the error that it spells none, by the number's name.
-pub fn named_number(j: Job, out: &mut [u8], word: &[u8], name: &[u8]) -> Result<u64, Job> {
+pub fn named_number(j: Job, out: &mut [u8], word: &[u8], name: &[u8]) -> Result<u64, Job>
+    ensures { MatchResult result (λ n. number_of word.now ≡ Ok n) (λ _. (n : ℕ) → number_of word.now ≢ Ok n) }
+{
     match words::decimal(word) {
         Ok(n) => Ok(n),
         Err(e) => {

@@ -31,7 +31,7 @@ use Rattle.plan_builder.specs.Outcome.{Outcome}
 
 -- ---- what is said and sound can be written
 
-module _ (family s : ℕ) (bases ps ms : List ℕ) (long : length bases ≡ 6) (six : s ≤ 6)
+module _ (family s : ℕ) (bases ps ms : List ℕ) (long : length bases ≡ 6) (long-ps : length ps ≡ 6) (long-ms : length ms ≡ 72) (six : s ≤ 6)
     (v : Valid (plan_of family s bases ps ms)) (blank : (family ≡ 2 → ⊥) → ps ≡ replicate 6 0) where
   base_low : (k : ℕ) → k < s → (family ≡ 2 → ⊥) → 1 ≤ get_or bases k 0
   unfolding Valid
@@ -51,11 +51,14 @@ module _ (family s : ℕ) (bases ps ms : List ℕ) (long : length bases ≡ 6) (
       (λ n. rw (blank n, zeros_at 6 k) (degree_low 0 (omega arith)))
       (eq_or_ne family 2)
 
-  can_write : Writable family s bases ps
+  can_write : Writable family s bases ps ms
   can_write =
       record {
         kind = (valid_kind family s bases ps ms v).0;
         count = six;
+        bases_long = omega arith;
+        polynomials_long = omega arith;
+        ms_long = omega arith;
         base = base_low;
         degree = degree_at;
       }
@@ -77,9 +80,9 @@ module _ {line : List ℕ} {from : ℕ} {r : PlanSaid} (p : PlanHeld line from r
   valid_said : (r.axes ≤ 6) × Valid (plan_of r.family r.axes r.bases r.polynomials r.ms)
   valid_said = (found_valid r.family r.axes r.bases r.polynomials r.ms p.size c).0 sound
 
-  pub writable : Writable r.family r.axes r.bases r.polynomials
+  pub writable : Writable r.family r.axes r.bases r.polynomials r.ms
   writable =
-      can_write r.family r.axes r.bases r.polynomials r.ms p.size valid_said.0 valid_said.1 p.blank
+      can_write r.family r.axes r.bases r.polynomials r.ms p.size p.size_polynomials p.size_ms valid_said.0 valid_said.1 p.blank
 
   pub written_out : (old new : List ℕ) (code len : ℕ) → Written (plan_of r.family r.axes r.bases r.polynomials r.ms) old new code len
       → (code ≡ 0 → Outcome line from old (Ok len) new) × (code ≢ 0 → Outcome line from old (Err (fault_at code 0 0 0 0)) new)

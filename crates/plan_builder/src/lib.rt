@@ -23,7 +23,7 @@ pub fn build(line: &[u8], from: usize, out: &mut [u8]) -> Result<usize, Fault>
         ms: &p.ms,
     };
     plan_check::check(fields)?;
-    let w = writer::write_plan(out, fields);
+    let w = writer::write_plan(out, p.family, p.axes, &p.bases, &p.polynomials, &p.ms);
     if w.code != 0 {
         return Err(plan_check::report(w.code, 0, 0, 0, 0));
     }

@@ -8,7 +8,7 @@ ghost use Rattle.state.specs.State.{ms_in};
 ghost use Rattle.calls.specs.Calls.{read_spec, write_spec, write_buf, open_spec};
 
 use calls::Moved;
-use plan::{PlanFields, refusal};
+use plan::refusal;
 use points::PlanAxes;
 use state::Sampler;
 use writer::PlanWritten;
@@ -53,14 +53,7 @@ pub fn write(s: Sampler, out: &mut [u8]) -> PlanWritten
         };
     }
     let ms = ms_of(&s.directions);
-    let p = PlanFields {
-        family: s.family,
-        axes: s.axes,
-        bases: &s.bases,
-        polynomials: &s.polynomials,
-        ms: &ms,
-    };
-    writer::write_plan(out, p)
+    writer::write_plan(out, s.family, s.axes, &s.bases, &s.polynomials, &ms)
 }
 
 // The starts, one for each axis, with zeros after them.

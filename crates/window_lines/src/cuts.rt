@@ -1,5 +1,5 @@
 // The cuts of a line.
-ghost use Rattle.std.specs.Prelude.{◌≡◌, ◌≤◌, IfOk, length};
+ghost use Rattle.std.specs.Prelude.{◌≡◌, ◌≤◌, MatchResult, length};
 
 use job::Job;
 use words::NumberError;
@@ -71,7 +71,7 @@ fn read_cut(word: &[u8]) -> Result<Cut, CutError> {
 // The first seven cuts from `from` on, or as many as there are; or the first that is none.
 pub fn read_cuts(line: &[u8], from: usize) -> Result<Cuts, BadCut>
     requires { from ≤ length line.now }
-    ensures { IfOk result (λ c. (c.axes ≤ 7) × (length c.cuts ≡ 14)) }
+    ensures { MatchResult result (λ c. (c.axes ≤ 7) × (length c.cuts ≡ 14)) (λ bad. bad.cuts ≤ 7) }
 {
     let mut read = Cuts {
         axes: 0,

@@ -2,17 +2,16 @@
 use Rattle.std.specs.Prelude.{◌≡◌, Bool, cond, List, ◌++◌, ℕ, ◌≤◌, ◌<◌, ltb, length, drop, get_or}
 use Rattle.binary.specs.Polynomial.{degree_of}
 use Rattle.plan.specs.Plan.{Plan, spell}
-use Rattle.plan.specs.declared.fields.PlanFields.{PlanFields}
 
--- what a plan's fields have to meet for the writer: no more than six axes, bases from 1 up, degrees up to 12
-pub record Writable (family axes : ℕ) (bases ps : List ℕ) : Type 0 where
+-- what arrays of a plan have to meet for the writer: no more than six axes, bases from 1 up, degrees up to 12
+pub record Writable (family axes : ℕ) (bases ps ms : List ℕ) : Type 0 where
   pub kind : family < 4
   pub count : axes ≤ 6
+  pub bases_long : axes ≤ length bases
+  pub polynomials_long : axes ≤ length ps
+  pub ms_long : 72 ≤ length ms
   pub base : (k : ℕ) → k < axes → (family ≡ 2 → ⊥) → 1 ≤ get_or bases k 0
   pub degree : (k : ℕ) → k < axes → degree_of (get_or ps k 0) ≤ 12
-
-abbrev pub CanWrite : PlanFields → Type 0
-CanWrite p = Writable p.family p.axes p.bases.now p.polynomials.now
 
 -- ---- the writer's answer for a plan and a buffer
 

@@ -4,26 +4,30 @@
 ghost use Rattle.std.specs.Prelude.{◌≡◌, ◌≤◌, length};
 ghost use Rattle.bits.specs.Stream.{AllBelow, overwrite};
 ghost use Rattle.plan.specs.Plan.{plan_bits};
-ghost use Rattle.plan.specs.Fields.{fields_plan};
+ghost use Rattle.plan.specs.Answer.{plan_of};
 ghost use Rattle.axes_writer.specs.Parts.{BitsPut};
-ghost use Rattle.writer.specs.Parts.{CanWrite, Written};
+ghost use Rattle.writer.specs.Parts.{Writable, Written};
 
-use plan::{PlanFields, refusal};
+use plan::refusal;
 
 // The bits of the plan, into a buffer of 128 bytes; gives how many there are.
-fn put_plan(out: &mut [u8], p: PlanFields) -> usize
-    requires { (length out.old ≡ 128) × CanWrite p }
-    ensures { BitsPut out.old out.new 0 (plan_bits (fields_plan p.entry)) result × (result ≤ 965) }
+fn put_plan(
+    out: &mut [u8],
+    family: u64,
+    axes: usize,
+    bases: &[u64],
+    polynomials: &[u64],
+    ms: &[u64],
+) -> usize
+    requires { (length out.old ≡ 128) × Writable family axes bases.now polynomials.now ms.now }
+    ensures { BitsPut out.old out.new 0 (plan_bits (plan_of family axes bases.now polynomials.now ms.now)) result × (result ≤ 965) }
 {
-    let bases = p.bases;
-    let polynomials = p.polynomials;
-    let ms = p.ms;
-    bits::put(out, 0, 2, p.family);
-    bits::put(out, 2, 3, p.axes as u64);
-    if p.family == 2 {
-        return axes_writer::put_axes(out, polynomials, ms, p.axes);
+    bits::put(out, 0, 2, family);
+    bits::put(out, 2, 3, axes as u64);
+    if family == 2 {
+        return axes_writer::put_axes(out, polynomials, ms, axes);
     }
-    axes_writer::put_bases(out, bases, p.axes)
+    axes_writer::put_bases(out, bases, axes)
 }
 
 // The front of `out` becomes the bytes.
@@ -42,13 +46,21 @@ pub struct PlanWritten {
     pub len: usize,
 }
 
-// Writes the plan that the fields hold to the front of `out`.
-pub fn write_plan(out: &mut [u8], p: PlanFields) -> PlanWritten
-    requires { CanWrite p }
-    ensures { Written (fields_plan p.entry) out.old out.new result.code result.len }
+// Writes the plan that the arrays hold to the front of `out`. They are slices, and no `PlanFields`: its arrays are of a state's lengths, and here
+// the bases and the polynomials may be just those of the axes.
+pub fn write_plan<'a>(
+    out: &mut [u8],
+    family: u64,
+    axes: usize,
+    bases: &'a [u64],
+    polynomials: &'a [u64],
+    ms: &[u64],
+) -> PlanWritten
+    requires { Writable family axes bases.now polynomials.now ms.now }
+    ensures { Written (plan_of family axes bases.now polynomials.now ms.now) out.old out.new result.code result.len }
 {
     let mut buffer = [0u8; 128];
-    let n = put_plan(&mut buffer, p);
+    let n = put_plan(&mut buffer, family, axes, bases, polynomials, ms);
     let len = (n + 7) / 8;
     bits::put(&mut buffer, n, 8 * len - n, 0);
     if out.len() < len {

@@ -98,8 +98,9 @@ turn : (t : ℕ) (c : split_class-After-is_whole t) →
     let i = c.loop-i.i in
     (i < base_in a.rows.now a.s) × (i < a.k)
 turn t c =
-    let l : c.loop-i.i < c.min-end.result = c.loop-i-test.true in
-    (omega arith, omega arith)
+    let e = c.class_number-end.ensures in
+    let l : c.loop-i.i < c.class_number-end.result = c.loop-i-test.true in
+    (omega (arith, e.0), omega (arith, e.1))
 
 -- the class of a turn
 size : (t : ℕ) (c : split_class-After-is_whole t) →
@@ -246,6 +247,6 @@ split_class-loop-i-preserved t c =
 pub split_class-returns : goal.split_class-returns
 split_class-returns t c =
     ⊎_elim
-    (λ l. split_full c.loop-i.invariant.0 (omega (arith, (held_digits c.requires.0 c.args.s (omega arith)).low)) (omega (arith, l, c.loop-i.invariant.1)))
+    (λ l. split_full c.loop-i.invariant.0 (omega (arith, (held_digits c.requires.0 c.args.s (omega arith)).low)) (omega (arith, c.class_number-end.ensures.2 l, c.loop-i.invariant.1)))
     (λ l. split_all c.loop-i.invariant.0 (omega arith))
-    (lt_or_ge c.min-end.result c.args.k)
+    (lt_or_ge c.class_number-end.result c.args.k)

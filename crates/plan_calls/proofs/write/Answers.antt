@@ -22,7 +22,7 @@ returns-then-not-is_genuine c = let w = write_foreign _ _ (foreign c) in (sym w.
 pub write_plan-requires : goal.write_plan-requires
 write_plan-requires c =
     let s = c.args.s in
-    writable_in s (genuine_is s (known (goal.at.write_plan-requires c).Else-not-is_genuine))
+    rw c.ms_of-ms.ensures (writable_in s (genuine_is s (known (goal.at.write_plan-requires c).Else-not-is_genuine)))
 
 pub returns : goal.returns
 unfolding plan_in

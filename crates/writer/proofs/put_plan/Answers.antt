@@ -6,9 +6,9 @@ use Rattle.axes_writer.proofs.PartLaws.{put_field}
 use Rattle.writer.proofs.PlanLaws.{put_header, whole_sobol, whole_halton}
 use Rattle.writer.proofs.put_plan.Goals as goal
 
-pub returns-then-p-eq2 : goal.returns-then-p-eq2
-returns-then-p-eq2 c =
-    let a = c.args.p in
+pub returns-then-family-eq2 : goal.returns-then-family-eq2
+returns-then-family-eq2 c =
+    let a = c.args in
     let header = put_header a.family a.axes (put_field _ _ _ c.put.auto.out c.put.ensures (omega arith) (omega arith) (omega arith))
     (put_field _ _ _ c.put-2.auto.out c.put-2.ensures (omega arith) (omega arith) (omega arith)) in
     (whole_sobol a.family a.axes a.bases.now a.polynomials.now a.ms.now header (omega arith) c.put_axes.ensures.0, omega arith)
@@ -19,7 +19,7 @@ put_bases-requires c =
 
 pub returns : goal.returns
 returns c =
-    let a = c.args.p in
+    let a = c.args in
     let header = put_header a.family a.axes (put_field _ _ _ c.put.auto.out c.put.ensures (omega arith) (omega arith) (omega arith))
     (put_field _ _ _ c.put-2.auto.out c.put-2.ensures (omega arith) (omega arith) (omega arith)) in
     let most = length_bases_bits (take a.axes a.bases.now) in (
